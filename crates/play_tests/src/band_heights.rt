@@ -1,13 +1,13 @@
 //! Surfaces shown in bands of each height, from each colour: the writes and the text are those of the whole.
 
-use crate::certificates::{CERTIFICATE, POLYGON};
+use crate::comparing::colour;
 use crate::files::framed;
 use crate::runs::{BLACK, Shape, run};
-use crate::worked_files::colour;
 use mapping::Colour;
 use player::play_bands;
 use preflight_cert::check;
 use std::alloc::{AllocError, Global};
+use test_support::{TRI, TRI_CERT};
 
 /// A file of a column of this height: a line down all of it, and white again from row 5 to before row 8.
 fn column(alloc: Global, height: u16) -> Result<Vec<u8>, AllocError> {
@@ -69,7 +69,7 @@ fn a_band_of_a_low_surface_has_each_height(rt: HostRuntime) -> Result<(), AllocE
 /// Whether the polygon is shown over a colour, in bands of so many rows: its 16 pixels are black, or one of them white, and there the colour
 /// is in three places.
 fn is_over(alloc: Global, start: Colour, rows: u32) -> bool {
-    let Ok(cleared) = check(alloc, &POLYGON, &CERTIFICATE) else {
+    let Ok(cleared) = check(alloc, TRI, TRI_CERT) else {
         return false;
     };
     if rows == 0 {

@@ -1,54 +1,21 @@
-//! Playing files by certificate on surfaces within the bound and on one that exceeds it.
+//! Playing files by certificate on a surface that exceeds the bound, again and again on one canvas, and while memory
+//! fails.
 
-use crate::certificates::{CERTIFICATE, POLYGON};
-use crate::comparing::same;
-use crate::worked_files::{BLUE, colour};
+ghost use Rattle.mapping.specs.Limits.{IsSurfaceSide};
+
+use crate::comparing::{BLUE, colour, same};
 use canvas::Canvas;
 use draw_ops::Fault;
 use mapping::Colour;
 use player::play;
-use preflight_cert::{check, prepare};
+use preflight_cert::{Refusal, check, prepare};
+use std::alloc::Global;
 use std::test::Fail;
-
-const K: Colour = Colour { r: 0, g: 0, b: 0 };
-
-const W: Colour = Colour::WHITE;
-
-const B: Colour = BLUE;
-
-#[test]
-fn a_polygon_plays_at_its_bound_over_what_is_there(rt: HostRuntime) -> Result<(), Fail> {
-    let cleared = check(rt.alloc(), &POLYGON, &CERTIFICATE)?;
-    let mut canvas = Canvas::new(rt.alloc(), 4, 4, BLUE)?;
-    same(&rt, play(rt.alloc(), &cleared, &mut canvas), Ok(16));
-    let want = [
-        [K, K, K, K], //
-        [K, W, B, K],
-        [K, B, K, B],
-        [K, K, B, B],
-    ];
-    for (y, row) in (0..).zip(want) {
-        for (x, pixel) in (0..).zip(row) {
-            same(&rt, (x, y, colour(&canvas, x, y)), (x, y, Some(pixel)));
-        }
-    }
-    Ok(())
-}
-
-#[test]
-fn a_polygon_plays_on_a_smaller_surface(rt: HostRuntime) -> Result<(), Fail> {
-    let cleared = check(rt.alloc(), &POLYGON, &CERTIFICATE)?;
-    let mut canvas = Canvas::new(rt.alloc(), 2, 2, BLUE)?;
-    same(&rt, play(rt.alloc(), &cleared, &mut canvas), Ok(5));
-    for (x, y) in [(0, 0), (1, 0), (0, 1), (1, 1)] {
-        same(&rt, (x, y, colour(&canvas, x, y)), (x, y, Some(K)));
-    }
-    Ok(())
-}
+use test_support::{DOT, DOT_CERT, RED, TRI, TRI_CERT};
 
 #[test]
 fn a_surface_above_the_bound_is_left_as_it_is(rt: HostRuntime) -> Result<(), Fail> {
-    let cleared = check(rt.alloc(), &POLYGON, &CERTIFICATE)?;
+    let cleared = check(rt.alloc(), TRI, TRI_CERT)?;
     for (width, height) in [(5, 4), (4, 5), (8192, 1)] {
         let mut canvas = Canvas::new(rt.alloc(), width, height, BLUE)?;
         let rejected = Err(Fault::SurfaceTooLarge);
@@ -60,14 +27,50 @@ fn a_surface_above_the_bound_is_left_as_it_is(rt: HostRuntime) -> Result<(), Fai
 }
 
 #[test]
-fn one_certificate_plays_at_each_size_within_it(rt: HostRuntime) -> Result<(), Fail> {
-    let text = prepare(rt.alloc(), &POLYGON, 64, 48)?;
-    let cleared = check(rt.alloc(), &POLYGON, text.as_slice())?;
-    for (width, height) in [(1, 1), (64, 48), (63, 1), (1, 47), (17, 31)] {
-        let mut canvas = Canvas::new(rt.alloc(), width, height, W)?;
-        let writes = play(rt.alloc(), &cleared, &mut canvas)?;
-        same(&rt, canvas.writes(), writes);
-        same(&rt, writes <= cleared.certificate.writes, true);
+fn a_canvas_counts_on(rt: HostRuntime) -> Result<(), Fail> {
+    let cleared = check(rt.alloc(), DOT, DOT_CERT)?;
+    let mut canvas = Canvas::new(rt.alloc(), 4, 4, BLUE)?;
+    for played in 1..4 {
+        if canvas.first() != 0 || canvas.writes() > 1000 {
+            return Err("the canvas of a test is whole and new".into());
+        }
+        same(&rt, play(rt.alloc(), &cleared, &mut canvas), Ok(1));
+        same(&rt, canvas.writes(), played);
+    }
+    Ok(())
+}
+
+/// Prepares a file at the size of a surface, checks its certificate, and plays it on white.
+fn play_white(alloc: Global, file: &[u8], width: u32, height: u32) -> Result<Canvas, Refusal>
+    requires wide { IsSurfaceSide width }
+    requires high { IsSurfaceSide height }
+{
+    let certificate = prepare(alloc, file, width, height)?;
+    let cleared = check(alloc, file, certificate.as_slice())?;
+    let Ok(mut canvas) = Canvas::new(alloc, width, height, Colour::WHITE) else {
+        return Err(Refusal::of_file(Fault::OutOfMemory));
+    };
+    match play(alloc, &cleared, &mut canvas) {
+        Ok(_) => Ok(canvas),
+        Err(fault) => Err(Refusal::of_file(fault)),
+    }
+}
+
+// tests/failed_growth_test.py runs this once more for each allocation that can fail.
+#[test]
+fn a_dot_under_failed_growth(rt: HostRuntime) -> Result<(), Fail> {
+    match play_white(rt.alloc(), DOT, 4, 4) {
+        Ok(canvas) => {
+            same(&rt, canvas.writes(), 1);
+            same(&rt, colour(&canvas, 2, 1), Some(RED));
+        }
+        Err(refusal) => {
+            let want = Refusal {
+                number: None,
+                fault: Fault::OutOfMemory,
+            };
+            same(&rt, refusal, want);
+        }
     }
     Ok(())
 }

@@ -1,8 +1,7 @@
 //! A picture that is drawn on some rows of a surface at a time, with results worked by hand.
 
-use crate::comparing::same;
-use crate::files::placeable;
-use crate::worked_files::{BLUE, colour};
+use crate::comparing::{BLUE, colour, same};
+use crate::files::framed;
 use canvas::Canvas;
 use dc_stack::Machine;
 use draw_ops::OpSource;
@@ -45,7 +44,7 @@ const FRAME: [u16; 7] = [7, 0, 0x41b, 4, 4, 1, 1];
 
 #[test]
 fn a_rectangle_goes_on_over_an_edge_of_rows(rt: HostRuntime) -> Result<(), Fail> {
-    let file = placeable(rt.alloc(), 4, &FRAME)?;
+    let file = framed(rt.alloc(), 4, 4, &FRAME)?;
     // Nine pixels are filled and eight are stroked: in row 1 three and three, in rows 2 and 3 six and five.
     for (first, rows, writes) in [(0, 2, 6), (2, 2, 11), (0, 1, 0), (1, 3, 17), (3, 1, 6)] {
         let mut canvas = Canvas::band(rt.alloc(), 4, first, rows, BLUE)?;

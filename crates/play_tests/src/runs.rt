@@ -1,11 +1,10 @@
 //! A whole run of a file: prepared, checked, played on a white surface, and once more in bands.
 
-use crate::files::certificate;
 use canvas::Canvas;
 use mapping::Colour;
 use player::{play, play_bands};
 use preflight_cert::{Cleared, check, prepare};
-use std::alloc::{AllocError, Global};
+use std::alloc::Global;
 
 /// The colour of the pen at the start of a file.
 pub(crate) const BLACK: Colour = Colour { r: 0, g: 0, b: 0 };
@@ -62,19 +61,4 @@ fn has_bands(alloc: Global, cleared: &Cleared<'_>, shape: Shape, canvas: &Canvas
         &mut text,
     );
     written && played == Ok(canvas.writes()) && text.as_slice() == want.as_slice()
-}
-
-/// Whether the certificate of a file at a bound has these numbers behind its mark.
-pub(crate) fn has_certificate(
-    alloc: Global,
-    file: &[u8],
-    width: u32,
-    height: u32,
-    longs: &[u32],
-) -> Result<bool, AllocError> {
-    let want = certificate(alloc, longs)?;
-    Ok(match prepare(alloc, file, width, height) {
-        Ok(text) => text.as_slice() == want.as_slice(),
-        Err(_) => false,
-    })
 }
