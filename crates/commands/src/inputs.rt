@@ -14,7 +14,7 @@ use std::io::Read;
 use std::rt::Files;
 
 /// The word that stands for standard input.
-const STANDARD_INPUT: &str = "stdin";
+pub(crate) const STANDARD_INPUT: &str = "stdin";
 
 /// The bytes of a command's inputs.
 #[derive(Drop)]
