@@ -22,11 +22,14 @@ most_at_a_time() {
     echo "$most"
 }
 
-# How many lines the prover reads of some crates, by which it is estimated how long they take.
-lines_of() {
+# About how many seconds the proofs of some crates take, by the table. A crate that isn't in it counts a minute.
+seconds_of() {
     for name in "$@"; do
-        find "$root/crates/$name" -path '*/out' -prune -o -type f -exec cat {} +
-    done | wc -l
+        awk -v name="$name" '
+            BEGIN { seconds = 60 }
+            $1 == name { seconds = $2 }
+            END { print seconds }' "$root/launcher/seconds"
+    done | awk '{ sum += $1 } END { print sum + 0 }'
 }
 
 # Proves and builds one crate, for the program with a run on a sample to see that it works. Leaves its seconds in
@@ -70,11 +73,12 @@ begin_ready() {
     done
 }
 
-# How long it took so far and, once a crate is built, about how long it will take: as long for each line as so far.
+# How long it took so far and, once a crate is built, about how long it will take: by the table, and by how much slower
+# or faster than it this build was so far.
 duration() {
     so_far=$(($(date +%s) - start))
-    if [ "$lines" -gt 0 ]; then
-        to_come=", to come about $(minutes $((so_far * (all_lines - lines) / lines)))"
+    if [ "$ended_seconds" -gt 0 ]; then
+        to_come=", to come about $(minutes $((so_far * (all_seconds - ended_seconds) / ended_seconds)))"
     fi
     echo "minutes so far $(minutes "$so_far")${to_come-}"
 }
@@ -87,7 +91,7 @@ report_built() {
         reported=$((reported + 1))
         last=$(date +%s)
         name=$(basename "$file" .done)
-        lines=$((lines + $(lines_of "$name")))
+        ended_seconds=$((ended_seconds + $(seconds_of "$name")))
         say "$name proved and built in $(cat "$file") s ($reported of $total); $(duration)"
     done
 }
@@ -134,9 +138,9 @@ build() {
     total=$(crates | wc -l)
     most=$(most_at_a_time)
     reported=0
-    lines=0
+    ended_seconds=0
     # shellcheck disable=SC2046
-    all_lines=$(lines_of $(crates | cut -d ' ' -f 1))
+    all_seconds=$(seconds_of $(crates | cut -d ' ' -f 1))
     start=$(date +%s)
     last=$start
     sum=$(sources_sum)
