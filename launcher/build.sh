@@ -22,7 +22,8 @@ most_at_a_time() {
     echo "$most"
 }
 
-# About how many seconds the proofs of some crates take, by the table. A crate that isn't in it counts a minute.
+# About how many seconds of processor the proofs of some crates take, as measured in one run of `rt ci` on a processor of
+# 2.5 GHz, with other programs running (launcher/seconds). A crate that isn't in that table counts a minute.
 seconds_of() {
     for name in "$@"; do
         awk -v name="$name" '

@@ -211,6 +211,15 @@ class Launcher(unittest.TestCase):
         err = self.is_run("first", ["low", "meta_main"])
         self.assertRegex(err, r"metaplay: proving low: [1-3] s, 8 of 9 functions; minutes so far 0\n")
 
+    def test_the_time_to_come_is_estimated_by_the_table(self):
+        # The lowest crate takes a second or two, and the program 59 times as long.
+        self.write("launcher/seconds", "low 1\nmeta_main 59\n")
+        (self.kit / "seconds").write_text("1.2")
+        self.assertRegex(self.is_run("first", ["low", "meta_main"]), r"low proved .*, to come about [12]\n")
+        self.write("launcher/seconds", "other 1\n")
+        self.write("crates/low/src/lib.rt", "changed\n")
+        self.assertRegex(self.is_run("first", ["low", "meta_main"]), r"low proved .*, to come about 0\n")
+
     def test_without_a_list_of_crates_nothing_runs(self):
         self.is_run("first", ["low", "meta_main"])
         (self.root / "crates.txt").unlink()
@@ -227,6 +236,15 @@ class Launcher(unittest.TestCase):
         self.assertEqual(self.call("try", sample, "8192", "8192")[0], 2)
         for missing in [self.root / "no file", self.root]:
             self.assertEqual(self.call("try", missing, "4", "4"), (3, "", "metaplay: cannot read\n"))
+
+
+class Table(unittest.TestCase):
+    def test_the_crates_of_the_program_are_in_the_table(self):
+        script = f'root={ROOT}; . "$root/launcher/program.sh"; crates'
+        crates = subprocess.run(["sh", "-c", script], capture_output=True, text=True, check=True).stdout.splitlines()
+        lines = [line.split() for line in (ROOT / "launcher/seconds").read_text("ascii").splitlines()]
+        self.assertEqual(sorted(name for name, _ in lines), sorted(line.split()[0] for line in crates))
+        self.assertTrue(all(int(seconds) > 0 for _, seconds in lines))
 
 
 class Program(unittest.TestCase):
