@@ -8,7 +8,7 @@ use std::test::Fail;
 use test_support::{DOT, changed};
 
 /// The smallest EMF file without a drawing: its bounds are (0, 0, -1, -1).
-pub(crate) const NIL_EMF: [u8; 108] = [
+const NIL_EMF: [u8; 108] = [
     // EMR_HEADER: type, size, bounds, frame.
     1, 0, 0, 0, 88, 0, 0, 0, //
     0, 0, 0, 0, 0, 0, 0, 0, 255, 255, 255, 255, 255, 255, 255, 255, //

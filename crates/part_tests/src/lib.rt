@@ -37,10 +37,6 @@ mod notes;
 #[cfg(test)]
 mod places;
 #[cfg(test)]
-mod records_of_emf;
-#[cfg(test)]
-mod records_of_wmf;
-#[cfg(test)]
 mod row_crossings;
 #[cfg(test)]
 mod rows;
@@ -48,8 +44,6 @@ mod rows;
 mod sent_lengths;
 #[cfg(test)]
 mod sizes;
-#[cfg(test)]
-mod sources;
 #[cfg(test)]
 mod table_indexes;
 #[cfg(test)]

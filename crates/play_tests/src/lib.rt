@@ -22,6 +22,8 @@ mod rows_apart;
 #[cfg(test)]
 mod runs;
 #[cfg(test)]
+mod sources;
+#[cfg(test)]
 mod state_depths;
 #[cfg(test)]
 mod stepping;
