@@ -113,18 +113,20 @@ class Recipes(unittest.TestCase):
         self.assertIn(HELD_LINE, err)
 
     def test_the_filter_of_cups(self):
-        job = [RECIPES / "metaplaytopnm", "7", "somebody", "a title", "1", ""]
-        self.assertEqual(self.run_words(*job, "dot.wmf", METAPLAY_SIDE="4"), (0, DOT_IMAGE, b""))
-        self.assertEqual(self.run_words(*job, given=DOT, METAPLAY_SIDE="4"), (0, DOT_IMAGE, b""))
-        self.assertEqual(self.run_words(*job, "held file.wmf"), (1, b"", b"ERROR: " + HELD_LINE))
-        status, out, _ = self.run_words(*job, "dot.wmf")
+        job, settings = [RECIPES / "metaplaytopnm", "7", "somebody", "a title", "1", ""], {"METAPLAY": str(PROGRAMS[0])}
+        sized = [*job[:-1], "finishings=3 metaplay-side=4 number-up=1"]
+        self.assertEqual(self.run_words(*sized, "dot.wmf", **settings), (0, DOT_IMAGE, b""))
+        self.assertEqual(self.run_words(*sized, given=DOT, **settings), (0, DOT_IMAGE, b""))
+        self.assertEqual(self.run_words(*job, "held file.wmf", **settings), (1, b"", b"ERROR: " + HELD_LINE))
+        self.assertEqual(self.run_words(*job, "dot.wmf", METAPLAY="/no/program"), (1, b"", b"ERROR: /no/program is missing\n"))
+        status, out, _ = self.run_words(*job, "dot.wmf", **settings)
         self.assertEqual((status, out[:17]), (0, b"P6\n2400 2400\n255\n"))
 
     @needs("jq", "xargs", "find")
     def test_a_folder_side_by_side(self):
         if not (has_command("prepare") and has_command("check")):
             self.skipTest("the program has no commands for certificates")
-        line = f"find . -name '*.[we]mf' -print0 | xargs -0 -r -n 1 -P 4 {RECIPES / 'check-file'} 64 64"
+        line = f"find . -iname '*.[we]mf' -print0 | xargs -0 -r -n 1 -P 4 {RECIPES / 'check-file'} 64 64"
         for _ in range(2):
             # The second time the certificate of the file that is accepted is there.
             status, out, err = self.run_words("sh", "-c", line)
@@ -133,6 +135,10 @@ class Recipes(unittest.TestCase):
             self.assertEqual([told[name]["accepted"] for name in sorted(told)], [True, False])
             self.assertEqual(told["./held file.wmf"]["said"], HELD_LINE.decode()[10:-1])
             self.assertTrue((self.folder / "dot.wmf.mpc").exists())
+        # A certificate for smaller surfaces than those that are asked for.
+        status, out, _ = self.run_words(RECIPES / "check-file", "64", "65", "dot.wmf")
+        self.assertEqual((status, json.loads(out)["said"]), (1, "the certificate is for surfaces up to 64 by 64"))
+        self.assertEqual(self.run_words(RECIPES / "check-file", "63", "64", "dot.wmf")[0], 0)
         # A certificate of another file is refused by the report.
         shutil.copy(self.folder / "dot.wmf.mpc", self.folder / "held file.wmf.mpc")
         (self.folder / "held file.wmf").write_bytes((SAMPLES / "lines.wmf").read_bytes())
@@ -147,13 +153,23 @@ class Recipes(unittest.TestCase):
             self.skipTest("the program has no commands for certificates")
         git = ["git", "-c", "user.name=a", "-c", "user.email=a@b", "-c", "init.defaultBranch=main"]
         self.assertEqual(self.run_words(*git, "init", "-q")[0], 0)
-        (self.folder / ".git" / "hooks" / "pre-commit").symlink_to(RECIPES / "pre-commit")
+        shutil.copy(RECIPES / "pre-commit", self.folder / ".git" / "hooks" / "pre-commit")
         self.run_words(*git, "add", "dot.wmf")
         status, _, err = self.run_words(*git, "commit", "-q", "-m", "one")
         self.assertEqual(status, 0, err)
         self.run_words(*git, "add", "held file.wmf")
         status, _, err = self.run_words(*git, "commit", "-q", "-m", "two")
-        self.assertEqual((status != 0, HELD_LINE in err, b"pre-commit: refused: held file.wmf\n" in err), (True, True, True), err)
+        self.assertEqual((status != 0, HELD_LINE in err, b"pre-commit: rejected: held file.wmf\n" in err), (True, True, True), err)
+        # Names in capital letters count, and without the program nothing is committed.
+        self.run_words(*git, "mv", "-f", "held file.wmf", "HELD.WMF")
+        status, _, err = self.run_words(*git, "commit", "-q", "-m", "three")
+        self.assertEqual((status != 0, b"pre-commit: rejected: HELD.WMF\n" in err), (True, True), err)
+        self.run_words(*git, "rm", "-q", "--cached", "HELD.WMF")
+        shutil.copy(self.folder / "dot.wmf", self.folder / "next.emf")
+        self.run_words(*git, "add", "next.emf")
+        status, _, err = self.run_words(*git, "commit", "-q", "-m", "four", METAPLAY="no-program")
+        self.assertEqual((status != 0, b"pre-commit: no-program is missing\n" in err), (True, True), err)
+        self.assertEqual(self.run_words(*git, "commit", "-q", "-m", "five")[0], 0)
         self.assertEqual(self.run_words(RECIPES / "pre-commit", "dot.wmf")[0], 0)
         self.assertEqual(self.run_words(RECIPES / "pre-commit", "dot.wmf", "held file.wmf", "dot.wmf")[0], 1)
 
