@@ -3,7 +3,6 @@
 use crate::comparing::same;
 use mapping::{Point, Rect};
 use point_views::{Counts, Points, Polys, i16_at, i32_at, u8_at, u16_at, u32_at};
-use std::test::Fail;
 
 /// Three points of 16-bit numbers: (-1, 1), (-32768, 32767) and (300, -2).
 const SHORT: [u8; 12] = [
@@ -45,28 +44,26 @@ fn is_row(points: Points<'_>, first: i32, count: usize) -> bool {
 }
 
 #[test]
-fn reads_short_points(rt: HostRuntime) -> Result<(), Fail> {
-    let points = Points::new16(&SHORT, 3).ok_or("three points")?;
+fn reads_short_points(rt: HostRuntime) {
+    let points = Points::new16(&SHORT, 3).expect(&rt, "three points");
     same(&rt, points.len(), 3);
     assert!(rt; !points.is_empty());
     for (i, x, y) in [(0, -1, 1), (1, -32768, 32767), (2, 300, -2)] {
         assert!(rt; has(points, i, x, y), "at {i}");
     }
-    Ok(())
 }
 
 #[test]
-fn reads_long_points(rt: HostRuntime) -> Result<(), Fail> {
-    let points = Points::new32(&LONG, 3).ok_or("three points")?;
+fn reads_long_points(rt: HostRuntime) {
+    let points = Points::new32(&LONG, 3).expect(&rt, "three points");
     same(&rt, points.len(), 3);
     for (i, x, y) in [(0, -1, 65536), (1, -2147483648, 2147483647), (2, -70000, 5)] {
         assert!(rt; has(points, i, x, y), "at {i}");
     }
-    Ok(())
 }
 
 #[test]
-fn rejects_points_that_are_not_there(rt: HostRuntime) -> Result<(), Fail> {
+fn rejects_points_that_are_not_there(rt: HostRuntime) {
     assert!(rt; Points::new16(&SHORT[1..], 3).is_none());
     assert!(rt; Points::new32(&LONG[..23], 3).is_none());
     // 4 or 8 times these counts is 2^64 or more
@@ -74,15 +71,14 @@ fn rejects_points_that_are_not_there(rt: HostRuntime) -> Result<(), Fail> {
         assert!(rt; Points::new16(&SHORT, count).is_none(), "{count}");
         assert!(rt; Points::new32(&LONG, count).is_none(), "{count}");
     }
-    let none = Points::new16(&[], 0).ok_or("no points")?;
+    let none = Points::new16(&[], 0).expect(&rt, "no points");
     assert!(rt; none.is_empty());
     same(&rt, none.len(), 0);
-    Ok(())
 }
 
 #[test]
-fn takes_a_part_of_a_part(rt: HostRuntime) -> Result<(), Fail> {
-    let row = Points::new16(&ROW, 5).ok_or("five points")?;
+fn takes_a_part_of_a_part(rt: HostRuntime) {
+    let row = Points::new16(&ROW, 5).expect(&rt, "five points");
     assert!(rt; is_row(row, 10, 5));
     same(&rt, row.len(), 5);
     let last_four = row.part(1, 5);
@@ -91,16 +87,15 @@ fn takes_a_part_of_a_part(rt: HostRuntime) -> Result<(), Fail> {
     assert!(rt; is_row(last_four.part(1, 3), 12, 2));
     assert!(rt; is_row(last_four.part(4, 4), 0, 0));
     assert!(rt; last_four.part(1, 3) == row.part(2, 4));
-    Ok(())
 }
 
 #[test]
-fn reads_counts_without_a_sign(rt: HostRuntime) -> Result<(), Fail> {
-    let short = Counts::new16(&[0xff, 0xff, 0x04, 0x00], 2).ok_or("two counts")?;
+fn reads_counts_without_a_sign(rt: HostRuntime) {
+    let short = Counts::new16(&[0xff, 0xff, 0x04, 0x00], 2).expect(&rt, "two counts");
     same(&rt, short.len(), 2);
     same(&rt, short.get(0), 65535);
     same(&rt, short.get(1), 4);
-    let long = Counts::new32(&[4, 0, 0, 0, 0xff, 0xff, 0xff, 0xff], 2).ok_or("two counts")?;
+    let long = Counts::new32(&[4, 0, 0, 0, 0xff, 0xff, 0xff, 0xff], 2).expect(&rt, "two counts");
     same(&rt, long.len(), 2);
     same(&rt, long.get(0), 4);
     same(&rt, long.get(1), 4294967295);
@@ -111,13 +106,12 @@ fn reads_counts_without_a_sign(rt: HostRuntime) -> Result<(), Fail> {
         assert!(rt; Counts::new32(&[0; 7], count).is_none(), "{count}");
     }
     assert!(rt; Counts::new16(&[0; 3], 1 << 63).is_none());
-    assert!(rt; Counts::new16(&[], 0).ok_or("no counts")?.is_empty());
-    Ok(())
+    assert!(rt; Counts::new16(&[], 0).expect(&rt, "no counts").is_empty());
 }
 
 #[test]
-fn rejects_counts_that_do_not_add_up(rt: HostRuntime) -> Result<(), Fail> {
-    let row = Points::new16(&ROW, 5).ok_or("five points")?;
+fn rejects_counts_that_do_not_add_up(rt: HostRuntime) {
+    let row = Points::new16(&ROW, 5).expect(&rt, "five points");
     for (counts, fits) in [
         ([2, 0, 3, 0], true),
         ([5, 0, 0, 0], true),
@@ -127,20 +121,22 @@ fn rejects_counts_that_do_not_add_up(rt: HostRuntime) -> Result<(), Fail> {
         // 65535 + 6, which is 5 in 16 bits
         ([0xff, 0xff, 6, 0], false),
     ] {
-        let counts = Counts::new16(&counts, 2).ok_or("two counts")?;
+        let counts = Counts::new16(&counts, 2).expect(&rt, "two counts");
         same(&rt, Polys::new(counts, row).is_some(), fits);
     }
     // 4294967295 + 6, which is 5 in 32 bits
-    let counts = Counts::new32(&[0xff, 0xff, 0xff, 0xff, 6, 0, 0, 0], 2).ok_or("two counts")?;
+    let counts = Counts::new32(&[0xff, 0xff, 0xff, 0xff, 6, 0, 0, 0], 2).expect(&rt, "two counts");
     assert!(rt; Polys::new(counts, row).is_none());
-    Ok(())
 }
 
 #[test]
-fn cuts_points_into_lists(rt: HostRuntime) -> Result<(), Fail> {
-    let row = Points::new16(&ROW, 5).ok_or("five points")?;
-    let counts = Counts::new32(&[2, 0, 0, 0, 0, 0, 0, 0, 3, 0, 0, 0], 3).ok_or("three counts")?;
-    let polys = Polys::new(counts, row).ok_or("they add up")?;
+fn cuts_points_into_lists(rt: HostRuntime) {
+    let row = Points::new16(&ROW, 5).expect(&rt, "five points");
+    let counts = Counts::new32(&[2, 0, 0, 0, 0, 0, 0, 0, 3, 0, 0, 0], 3).expect(
+        &rt,
+        "three counts",
+    );
+    let polys = Polys::new(counts, row).expect(&rt, "they add up");
     same(&rt, polys.len(), 3);
     assert!(rt; is_row(polys.get(0), 10, 2));
     assert!(rt; polys.get(1).is_empty());
@@ -152,27 +148,25 @@ fn cuts_points_into_lists(rt: HostRuntime) -> Result<(), Fail> {
         }
     }
     same(&rt, lengths, [2, 0, 3, 9]);
-    let (first, rest) = polys.split_first().ok_or("a first list")?;
+    let (first, rest) = polys.split_first().expect(&rt, "a first list");
     assert!(rt; is_row(first, 10, 2));
     same(&rt, rest.len(), 2);
     assert!(rt; is_row(rest.get(1), 12, 3));
-    Ok(())
 }
 
 #[test]
-fn takes_points_as_one_list(rt: HostRuntime) -> Result<(), Fail> {
-    let row = Points::new16(&ROW, 5).ok_or("five points")?;
+fn takes_points_as_one_list(rt: HostRuntime) {
+    let row = Points::new16(&ROW, 5).expect(&rt, "five points");
     let polys = Polys::one(row);
     same(&rt, polys.len(), 1);
     assert!(rt; !polys.is_empty());
     assert!(rt; is_row(polys.get(0), 10, 5));
-    let (first, rest) = polys.split_first().ok_or("a first list")?;
+    let (first, rest) = polys.split_first().expect(&rt, "a first list");
     assert!(rt; is_row(first, 10, 5));
     assert!(rt; rest.is_empty());
     assert!(rt; rest.split_first().is_none());
     same(&rt, polys.lists().count(), 1);
     assert!(rt; Polys::empty().is_empty());
-    Ok(())
 }
 
 #[test]
@@ -190,8 +184,8 @@ fn numbers_begin_with_their_lowest_byte(rt: HostRuntime) {
 }
 
 #[test]
-fn has_the_bounding_box(rt: HostRuntime) -> Result<(), Fail> {
-    let short = Points::new16(&SHORT, 3).ok_or("three points")?;
+fn has_the_bounding_box(rt: HostRuntime) {
+    let short = Points::new16(&SHORT, 3).expect(&rt, "three points");
     let around_short = Rect {
         l: -32768,
         t: -2,
@@ -199,7 +193,7 @@ fn has_the_bounding_box(rt: HostRuntime) -> Result<(), Fail> {
         b: 32767,
     };
     same(&rt, short.bounds(), Some(around_short));
-    let long = Points::new32(&LONG, 3).ok_or("three points")?;
+    let long = Points::new32(&LONG, 3).expect(&rt, "three points");
     let around_long = Rect {
         l: -2147483648,
         t: 5,
@@ -207,6 +201,10 @@ fn has_the_bounding_box(rt: HostRuntime) -> Result<(), Fail> {
         b: 2147483647,
     };
     same(&rt, long.bounds(), Some(around_long));
-    assert!(rt; Points::new16(&[], 0).ok_or("no points")?.bounds().is_none());
-    Ok(())
+    assert!(rt;
+        Points::new16(&[], 0)
+            .expect(&rt, "no points")
+            .bounds()
+            .is_none()
+    );
 }
