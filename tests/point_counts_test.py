@@ -17,7 +17,8 @@ GREAT_COUNTS = [
 COUNTS = [*range(301), *GREAT_COUNTS]
 
 # The surface, as large as the frame.
-SIDES = WIDTH, _ = 4096, 3
+WIDTH = 4096
+SIDES = (WIDTH, 3)
 
 # The points of row 0 to the right, and those of row 2 to the left.
 ROW = b"".join(i16(column, 0) for column in range(WIDTH))

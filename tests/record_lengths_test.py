@@ -3,7 +3,7 @@
 import unittest
 
 from built import DOT
-from metafile.fields import RED, u32
+from metafile.fields import RED
 from metafile.files import emf_record, wmf_record
 from metafile.scripts import EMF
 from whole_runs import Run, RunsTest
@@ -14,11 +14,12 @@ GREAT_LENGTHS = [
     *[131_071, 131_072, 131_073, 1_048_575, 1_048_576, 1_048_577, 4_194_303, 4_194_304, 4_194_305],
 ]
 
-# The length of the headers of a file, and one of EMF with the same pixel.
+# The length of the headers of the dot.
 HEADERS = 40
 
 SIDES = (4, 4)
 
+# The same pixel in an EMF.
 EMF_DOT = EMF.file([EMF.pixel(2, 1, RED)], 4, 4)
 
 
