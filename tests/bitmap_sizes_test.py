@@ -10,7 +10,7 @@ from metafile.blits import PATCOPY, SRCCOPY, stretch_dib
 from metafile.fields import BLUE, RED, joined, u16
 from metafile.files import wmf_record
 from metafile.scripts import WMF
-from whole_runs import LONGEST_SHOWN, Run, RunsTest
+from whole_runs import Run, RunsTest
 
 # Sides beside powers of two, up to the largest of a surface.
 GREAT_SIDES = [127, 128, 129, 255, 256, 257, 1023, 1024, 1025, 4095, 4096, 4097, 8191, 8192]
@@ -58,7 +58,7 @@ def copied(bitmap):
     width, height = sides = bitmap.width, bitmap.height
     blit = wmf_record(0x0F43, joined(stretch_dib(SRCCOPY, 0, 0, *sides, 0, 0, *sides, packed=bitmap.packed()), {}))
     colours = dict.fromkeys([(width - 1, 0), (0, height - 1), (width - 1, height - 1)], RED) | {(0, 0): BLUE}
-    return Run(WMF.file([blit], sides, 0), sides, width * height, colours, rows=40)
+    return Run(WMF.file([blit], sides, 0), sides, 40, width * height, colours)
 
 
 def tiled(bitmap):
@@ -67,7 +67,7 @@ def tiled(bitmap):
     records = [brush, WMF.step("select", 0), WMF.step("pat_blt", PATCOPY, 0, 0, TILED, TILED)]
     places = [(0, 0), (64, 0), (0, 64), (64, 64), (1, 0)]
     colours = {(x, y): RED if x % bitmap.width or y % bitmap.height else BLUE for x, y in places}
-    return Run(WMF.file(records, TILED, 0), (TILED, TILED), TILED * TILED, colours, rows=9)
+    return Run(WMF.file(records, TILED, 0), (TILED, TILED), 9, TILED * TILED, colours)
 
 
 def runs(sides):
@@ -81,16 +81,11 @@ def runs(sides):
 class BitmapSizes(RunsTest):
     """Bitmaps that are copied and repeated."""
 
-    def check_sizes(self, sides, every):
-        """Bitmaps of these sides are painted. One of so many runs is tried in bands, too, and each whose image can't be requested."""
-        self.check_runs(runs(sides))
-        self.check_bands(run for number, run in enumerate(runs(sides)) if number % every == 0 or max(run.sides) > LONGEST_SHOWN)
-
     def test_each_small_size(self):
-        self.check_sizes([sides for side in range(1, 65) for sides in [(side, 1), (1, side), (side, side), (side, 65 - side)]], 49)
+        self.check_runs(runs([sides for side in range(1, 65) for sides in [(side, 1), (1, side), (side, side), (side, 65 - side)]]))
 
     def test_greater_sizes(self):
-        self.check_sizes([sides for side in GREAT_SIDES for sides in [(side, 1), (3, side)]], 5)
+        self.check_runs(runs([sides for side in GREAT_SIDES for sides in [(side, 1), (3, side)]]))
 
 
 if __name__ == "__main__":

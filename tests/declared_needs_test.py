@@ -4,8 +4,8 @@ import unittest
 
 from metafile.scripts import EMF, WMF
 from reference.certificates import Certificate, Entry
-from request_program import COUNT, PREPARE, asked, replies
-from whole_runs import FIRST, PAIRS, all_replies
+from request_program import COUNT, PREPARE, PROGRAMS, asked, replies
+from whole_runs import FIRST, all_replies
 
 SIDES = (4, 4)
 
@@ -27,30 +27,30 @@ GREAT_COUNTS = [
 class DeclaredNeeds(unittest.TestCase):
     """Files by certificates with larger needs."""
 
-    def check(self, given, certificates, writes, pairs=FIRST):
+    def check(self, given, certificates, writes, programs=FIRST):
         """A file plays by each certificate, and writes so many pixels."""
         requests = [asked(COUNT, SIDES, given, certificate.text()) for certificate in certificates]
-        for program, _ in pairs:
+        for program in programs:
             found = [line for line, _ in all_replies(program, requests)]
             wrong = [it for it in zip(certificates, found, strict=True) if it[1] != f"wrote {writes}"]
             self.assertEqual(wrong[:3], [])
 
-    def check_lines(self, need, counts, pairs=FIRST):
+    def check_lines(self, need, counts, programs=FIRST):
         """The line plays by certificates that declare one of its needs with each of these counts."""
-        self.check(LINE, [LINE_CERTIFICATE._replace(**{need: count}) for count in counts], 3, pairs)
+        self.check(LINE, [LINE_CERTIFICATE._replace(**{need: count}) for count in counts], 3, programs)
 
     def test_what_the_files_need(self):
-        for program, _ in PAIRS:
+        for program in PROGRAMS:
             for given, certificate in [(LINE, LINE_CERTIFICATE), (POLYGON, POLYGON_CERTIFICATE)]:
                 self.assertEqual(replies(program, [asked(PREPARE, SIDES, given)])[0][1], certificate.text())
 
     def test_each_depth(self):
-        self.check_lines("depth", range(257), PAIRS)
+        self.check_lines("depth", range(257), PROGRAMS)
 
     def test_each_count_of_slots(self):
         self.check_lines("slots", range(65_536))
         # A placeable file has at most 1,024 objects.
-        self.check(POLYGON, [POLYGON_CERTIFICATE._replace(slots=slots) for slots in range(1025)], 16, PAIRS)
+        self.check(POLYGON, [POLYGON_CERTIFICATE._replace(slots=slots) for slots in range(1025)], 16, PROGRAMS)
 
     def test_each_count_of_pieces(self):
         self.check_lines("pieces", range(65_537))

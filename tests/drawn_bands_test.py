@@ -2,15 +2,13 @@
 
 import unittest
 
-from built import answer
 from metafile.bitmaps import WHITE, bitmap
 from metafile.blits import BLACKNESS, PATCOPY
 from metafile.fields import BLACK, BLUE, u16
 from metafile.files import wmf_record
 from metafile.scripts import WMF
-from request_program import COUNT, PREPARE, asked, replies
+from request_program import COUNT, PLAY_COMMAND, PREPARE, PROGRAMS, Command, Ended, asked, ended, replies
 from shape_pictures import drawing
-from whole_runs import PAIRS, FilesTest
 
 SIDES = (8, 8)
 
@@ -18,18 +16,17 @@ SIDES = (8, 8)
 BANDS = [1, 3, 4, 8, 8192]
 
 
-class DrawnBands(FilesTest):
+class DrawnBands(unittest.TestCase):
     """Files whose box is as large as the surface."""
 
     def check(self, records, writes, picture):
         """A file of these records draws a picture on white in bands of any height, and writes so many pixels."""
         given = WMF.file(records, 8, 0)
-        for program, built in PAIRS:
+        for program in PROGRAMS:
             [(_, text)] = replies(program, [asked(PREPARE, SIDES, given)])
             self.assertEqual(replies(program, [asked(COUNT, SIDES, given, text)]), [(f"wrote {writes}", b"")])
-            words = ["play", self.path("file", given), self.path("certificate", text), "8", "8", "--bands"]
-            for rows in BANDS:
-                self.assertEqual(answer(built, [*words, str(rows)]), drawing(picture), rows)
+            found = ended(program, [Command(PLAY_COMMAND, given, text, SIDES, rows) for rows in BANDS])
+            self.assertEqual(found, [Ended(0, drawing(picture).out)] * len(BANDS))
 
     def test_lines_go_on_over_edges_of_bands(self):
         lines = WMF.records("move 0 1; line 4 1; line 4 6")

@@ -1,5 +1,5 @@
-"""A page of tiles and lines on surfaces of each width and of many heights, with the writes and some pixels by hand. At each of these sizes a run has its
-memory."""
+"""A page of tiles and lines on surfaces of each width and of many heights, with the writes and some pixels by hand. At each of these sizes a run has
+its memory."""
 
 import itertools
 import unittest
@@ -10,11 +10,13 @@ from metafile.drawings import number_of
 from metafile.fields import BLACK, BLUE, RED, u16
 from metafile.files import wmf_record
 from metafile.scripts import WMF
-from surface_sizes_test import HEIGHTS, LONGEST, SOME_SIDES, SizesTest
-from whole_runs import PAIRS, Run
+from request_program import PROGRAMS
+from surface_sizes_test import HEIGHTS, LONGEST, SOME_SIDES
+from whole_runs import Run, RunsTest
 
-# A red column and a blue one, as the pattern of a brush (META_DIBCREATEPATTERNBRUSH, [MS-WMF] 2.3.4.8).
-TILE = wmf_record(0x0142, u16(5, 0) + bitmap([[RED, BLUE]], 24).packed)
+# A brush with a red column and a blue one as its pattern (META_DIBCREATEPATTERNBRUSH, [MS-WMF] 2.3.4.8), and a pen of width 3; both are selected.
+TILE = wmf_record(0x0142, u16(5, 0) + bitmap([[RED, BLUE]], 24).packed) + WMF.step("select", 0)
+PEN = WMF.step("styled_pen", 1, 0, 3, number_of(GREEN)) + WMF.step("select", 1)
 
 
 def page(width, height):
@@ -24,11 +26,9 @@ def page(width, height):
     records = [
         WMF.step("pat_blt", BLACKNESS, 0, 0, width, height),
         TILE,
-        WMF.step("select", 0),
         WMF.step("pat_blt", PATCOPY, 0, 0, width, height),
         WMF.step("line", width, 0),
-        WMF.step("styled_pen", 1, 0, 3, number_of(GREEN)),
-        WMF.step("select", 1),
+        PEN,
         WMF.step("polyline", 0, bottom, width, bottom, 0, bottom),
         WMF.step("pixel", right, 0),
     ]
@@ -44,26 +44,26 @@ def page_run(width, height, rows):
     if height > 3:
         colours |= {(0, 1): RED} | ({(1, height - 3): BLUE} if width > 1 else {})
     writes = width * (2 * height + 1 + min(height, 2)) + 1
-    return Run(page(width, height), (width, height), writes, colours, rows=rows)
+    return Run(page(width, height), (width, height), rows, writes, colours)
 
 
-class Page(SizesTest):
+class Page(RunsTest):
     """The page with a tile and lines."""
 
     def test_each_width(self):
         for height, rows in [(1, 1), (2, 1), (5, 2)]:
-            self.check_sizes(page_run(width, height, rows) for width in range(1, LONGEST + 1))
+            self.check_runs(page_run(width, height, rows) for width in range(1, LONGEST + 1))
 
     def test_many_heights(self):
-        self.check_sizes(page_run(1, height, 8192) for height in HEIGHTS)
-        self.check_sizes(page_run(2, height, 1000) for height in HEIGHTS)
+        self.check_runs(page_run(1, height, 8192) for height in HEIGHTS)
+        self.check_runs(page_run(2, height, 1000) for height in HEIGHTS)
 
     def test_each_two_small_sides(self):
         sides = range(1, 41)
-        self.check_sizes((page_run(width, height, 7) for height, width in itertools.product(sides, sides)), PAIRS)
+        self.check_runs((page_run(width, height, 7) for height, width in itertools.product(sides, sides)), PROGRAMS)
         for height in (1, 2, 3, 33, 129):
-            self.check_sizes((page_run(width, height, 10) for width in SOME_SIDES), PAIRS)
-            self.check_sizes((page_run(height, width, 100) for width in SOME_SIDES), PAIRS)
+            self.check_runs((page_run(width, height, 10) for width in SOME_SIDES), PROGRAMS)
+            self.check_runs((page_run(height, width, 100) for width in SOME_SIDES), PROGRAMS)
 
 
 if __name__ == "__main__":

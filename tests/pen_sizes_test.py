@@ -5,8 +5,8 @@ import unittest
 from metafile.bitmaps import WHITE
 from metafile.fields import BLACK
 from metafile.scripts import WMF
-from request_program import PREPARE, asked
-from whole_runs import PAIRS, Run, RunsTest, all_replies
+from request_program import PREPARE, PROGRAMS, asked
+from whole_runs import FIRST, Run, RunsTest, all_replies
 
 # Widths beside powers of two, above those that are tried one by one.
 GREAT_WIDTHS = [383, 384, 385, 511, 512, 513, 1023, 1024, 1025, 2047, 2048, 2049, 3000, 4094, 4095, 4096]
@@ -32,7 +32,7 @@ def line_run(width):
     writes = covered(9, 13, before, after) * covered(11, 11, before, after)
     colours = {(9, 11): BLACK, (0, 11): WHITE if before < 9 else BLACK}
     given = WMF.file(WMF.records(f"styled_pen 0 0 {width} 0; select 0; move 9 11; line 14 11"), SIDE, 0)
-    return Run(given, (SIDE, SIDE), writes, colours, rows=5)
+    return Run(given, (SIDE, SIDE), 5, writes, colours)
 
 
 def corner_run(width):
@@ -43,7 +43,7 @@ def corner_run(width):
     shared = covered(14, 13, before, after) * rows
     writes = covered(9, 13, before, after) * rows + covered(11, 14, before, after) * columns - shared
     given = WMF.file(WMF.records(f"styled_pen 0 0 {width} 0; select 0; polyline 9 11 14 11 14 15"), SIDE, 0)
-    return Run(given, (SIDE, SIDE), writes, {(9, 11): BLACK, (14, 14): BLACK}, rows=7)
+    return Run(given, (SIDE, SIDE), 7, writes, {(9, 11): BLACK, (14, 14): BLACK})
 
 
 class Widths(RunsTest):
@@ -51,9 +51,7 @@ class Widths(RunsTest):
 
     def test_a_pen_has_each_width(self):
         for run_of in (line_run, corner_run):
-            runs = [run_of(width) for width in [*range(301), *GREAT_WIDTHS]]
-            self.check_runs(runs, PAIRS)
-            self.check_bands([*runs[:50], *runs[50::10]])
+            self.check_runs([run_of(width) for width in [*range(301), *GREAT_WIDTHS]], PROGRAMS)
 
 
 # A file one unit wide and four high, or four wide and one high: a unit is a whole side of the surface, and so is the nib of a pen of width 1.
@@ -76,12 +74,12 @@ COLUMNS = page(HIGH, "polyline 1 0 1 1 1 0 3 0")
 
 def row_run(given, width, writes):
     """The run of a stroke that has the first and the last pixel of row 1."""
-    return Run(given, (width, 4), writes, {(0, 1): BLACK, (width - 1, 1): BLACK}, rows=3)
+    return Run(given, (width, 4), 3, writes, {(0, 1): BLACK, (width - 1, 1): BLACK})
 
 
 def column_run(given, height, writes):
     """The run of a stroke that has the first and the last pixel of column 1."""
-    return Run(given, (4, height), writes, {(1, 0): BLACK, (1, height - 1): BLACK}, rows=1000)
+    return Run(given, (4, height), 1000, writes, {(1, 0): BLACK, (1, height - 1): BLACK})
 
 
 class Nibs(RunsTest):
@@ -91,9 +89,7 @@ class Nibs(RunsTest):
         """The runs of a line, and of several, by nibs as large as the surface. Of row 2, or of column 2, the nib covers the pixels from the first one
         to half of its own size."""
         for given, writes_of in [(line, lambda size: size), (lines, lambda size: size + size // 2 + 1)]:
-            runs = [run_of(given, size, writes_of(size)) for size in range(1, 4097)]
-            self.check_runs(runs)
-            self.check_bands([*runs[:20], *runs[20::50], runs[-1]])
+            self.check_runs(run_of(given, size, writes_of(size)) for size in range(1, 4097))
 
     def test_each_count_of_columns(self):
         self.check_nibs(row_run, LINE, LINES)
@@ -104,7 +100,7 @@ class Nibs(RunsTest):
     def test_a_wider_nib_is_rejected(self):
         sides = range(4097, 8193)
         requests = [asked(PREPARE, (side, 4), LINE) for side in sides] + [asked(PREPARE, (4, side), COLUMN) for side in sides]
-        self.assertEqual(set(all_replies(PAIRS[0][0], requests)), {("NibTooWide at record 3", b"")})
+        self.assertEqual(set(all_replies(FIRST[0], requests)), {("NibTooWide at record 3", b"")})
 
 
 if __name__ == "__main__":

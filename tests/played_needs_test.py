@@ -1,4 +1,4 @@
-"""Files with each count of saved states, of objects, of pieces of a path and of cuts, played whole, and some of them in bands."""
+"""Files with each count of saved states, of objects, of pieces of a path and of cuts, played whole and in bands."""
 
 import unittest
 
@@ -6,7 +6,8 @@ from metafile.blits import BLACKNESS
 from metafile.fields import BLACK, RED
 from metafile.scripts import EMF, WMF
 from reference.certificates import Certificate, Entry
-from whole_runs import PAIRS, Run, RunsTest
+from request_program import PROGRAMS
+from whole_runs import Run, RunsTest
 
 # Counts beside powers of two, above those that are tried one by one.
 GREAT_COUNTS = [511, 512, 513, 1023, 1024, 1025, 4095, 4096, 4097, 16_384, 32_767, 32_768, 32_769, 65_533, 65_534]
@@ -20,7 +21,7 @@ PIXEL = WMF.step("pixel", 2, 1)
 def dot_run(before, after, number, depth, slots):
     """The run of a file that draws the pixel as this record, between others, with a certificate of these needs."""
     certificate = Certificate(*SQUARE, 1, depth, slots, 0, 0, (Entry(number, 2, 1, 2, 1),))
-    return Run(WMF.file([*before, PIXEL, *after], 4, 0), SQUARE, 1, {(2, 1): RED}, certificate.text(), rows=3)
+    return Run(WMF.file([*before, PIXEL, *after], 4, 0), SQUARE, 3, 1, {(2, 1): RED}, certificate.text())
 
 
 def states_run(count):
@@ -35,7 +36,7 @@ def objects_run(count):
 
 def row_run(given, width, writes):
     """The run of a file that writes so many pixels in a row, from column 0 on, whose first is black where there is one."""
-    return Run(given, (width, 1), writes, {(0, 0): BLACK} if writes else {})
+    return Run(given, (width, 1), 1, writes, {(0, 0): BLACK} if writes else {})
 
 
 def pens_run(count):
@@ -60,26 +61,20 @@ def cuts_run(cuts):
 class Needs(RunsTest):
     """Files with needs of each size."""
 
-    def check_counts(self, run_of, counts, every):
-        """Files with these counts are played; one of so many is tried in bands, too."""
-        self.check_runs(map(run_of, counts))
-        self.check_bands(map(run_of, {*counts[::every], counts[-1]}))
-
     def test_each_depth_of_saved_states(self):
-        self.check_counts(states_run, range(257), 16)
+        self.check_runs(map(states_run, range(257)))
 
     def test_each_count_of_objects(self):
-        self.check_counts(objects_run, range(1025), 32)
+        self.check_runs(map(objects_run, range(1025)))
 
     def test_each_count_of_indexes(self):
-        self.check_counts(pens_run, [*range(1, 301), *GREAT_COUNTS], 15)
+        self.check_runs(map(pens_run, [*range(1, 301), *GREAT_COUNTS]))
 
     def test_a_path_of_each_count_of_lines(self):
-        self.check_counts(path_run, [*range(301), *GREAT_COUNTS], 15)
+        self.check_runs(map(path_run, [*range(301), *GREAT_COUNTS]))
 
     def test_each_count_of_cuts(self):
-        self.check_runs(map(cuts_run, range(17)), PAIRS)
-        self.check_bands(map(cuts_run, range(17)), PAIRS)
+        self.check_runs(map(cuts_run, range(17)), PROGRAMS)
 
 
 if __name__ == "__main__":

@@ -27,7 +27,7 @@ ROW_BACK = b"".join(i16(column, 2) for column in reversed(range(WIDTH)))
 
 def run_of(record, writes, colours):
     """The run of a file of one record."""
-    return Run(EMF.file([record], SIDES, 4), SIDES, writes, colours, rows=2)
+    return Run(EMF.file([record], SIDES, 4), SIDES, 2, writes, colours)
 
 
 def along_row(count):
@@ -76,22 +76,16 @@ def pairs_runs(count):
 class PointCounts(RunsTest):
     """Drawings of many points."""
 
-    def check_counts(self, run_of_count, counts):
-        """Drawings of these counts are played; some are tried in bands, too."""
-        self.check_runs(map(run_of_count, counts))
-        self.check_bands(map(run_of_count, [*counts[:20], *counts[20:300:20], *counts[301:-4:4], counts[-1]]))
-
     def test_lines_have_each_count_of_points(self):
-        self.check_counts(polyline_run, COUNTS)
+        self.check_runs(map(polyline_run, COUNTS))
 
     def test_a_polygon_has_each_count_of_points(self):
-        self.check_counts(polygon_run, COUNTS)
-        self.check_counts(flat_polygon_run, COUNTS)
+        self.check_runs(map(polygon_run, COUNTS))
+        self.check_runs(map(flat_polygon_run, COUNTS))
 
     def test_drawings_have_each_count_of_lists(self):
         counts = [*range(301), *(count // 2 for count in GREAT_COUNTS)]
-        for nth in range(2):
-            self.check_counts(lambda count, nth=nth: pairs_runs(count)[nth], counts)
+        self.check_runs(run for count in counts for run in pairs_runs(count))
 
 
 if __name__ == "__main__":

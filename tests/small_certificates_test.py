@@ -3,11 +3,10 @@
 import json
 import unittest
 
-from built import DOT, answer
+from built import DOT
 from metafile.fields import i32, u32
 from metafile.scripts import EMF, WMF
-from request_program import CHECK, PREPARE, asked, replies
-from whole_runs import PAIRS, FilesTest
+from request_program import CHECK, CHECK_COMMAND, PREPARE, PROGRAMS, Command, asked, ended, replies
 
 # A placeable file with the box (0,0)-(4,4) and a polygon (0,0), (4,0), (0,4).
 POLYGON = bytes.fromhex(
@@ -44,26 +43,26 @@ def emf(script, side=4):
     return EMF.file(EMF.records(script), side, 4)
 
 
-class CertificatesTest(FilesTest):
+class CertificatesTest(unittest.TestCase):
     """What the program that answers requests prepares and accepts."""
 
     def check_prepared(self, given, bound, *numbers):
         """The certificate of a file for a bound has these numbers after those of the bound, and is accepted."""
         text = certificate(*bound, *numbers)
-        for program, _ in PAIRS:
+        for program in PROGRAMS:
             self.assertEqual(replies(program, [asked(PREPARE, bound, given)]), [(f"prepared {len(text)}", text)])
             [(line, _)] = replies(program, [asked(CHECK, bound, given, text)])
             self.assertRegex(line, "^accepted ")
 
     def check_stopped(self, given, bound, fault):
         """A file has no certificate for a bound, because of this fault."""
-        for program, _ in PAIRS:
+        for program in PROGRAMS:
             self.assertEqual(replies(program, [asked(PREPARE, bound, given)]), [(fault, b"")])
 
     def check_checked(self, given, cases):
         """Certificates of a file are accepted, or have their faults."""
         texts, wanted = zip(*cases, strict=True)
-        for program, _ in PAIRS:
+        for program in PROGRAMS:
             found = [line for line, _ in replies(program, [asked(CHECK, FOUR, given, text) for text in texts])]
             self.assertEqual(found, list(wanted))
 
@@ -74,17 +73,17 @@ class Prepared(CertificatesTest):
     def test_a_polygon_has_a_certificate_of_sixty_bytes(self):
         self.assertEqual((len(POLYGON), len(CERTIFICATE)), (66, 60))
         self.check_prepared(POLYGON, FOUR, 32, 0, 0, 0, 3, 0, 1, 0, 0, 0, 4, 4)
-        for program, _ in PAIRS:
+        for program in PROGRAMS:
             self.assertEqual(replies(program, [asked(PREPARE, FOUR, POLYGON)]), [("prepared 60", CERTIFICATE)])
 
     def test_what_is_prepared_is_accepted(self):
         for bound in [(1, 1), (4, 4), (5, 7), (8192, 8192)]:
-            for program, built in PAIRS:
+            for program in PROGRAMS:
                 [(line, text)] = replies(program, [asked(PREPARE, bound, POLYGON)])
                 self.assertEqual((line, text[4:12]), ("prepared 60", u32(*bound)))
                 self.assertEqual(replies(program, [asked(CHECK, bound, POLYGON, text)]), [("accepted 2", b"")])
-                answered = answer(built, ["check", self.path("file", POLYGON), self.path("certificate", text)])
-                report = json.loads(answered.out)
+                [end] = ended(program, [Command(CHECK_COMMAND, POLYGON, text)])
+                report = json.loads(end.out)
                 self.assertEqual((report["accepted"], report["max"], report["drawings"], report["records"]), (True, [*bound], 1, 2))
 
     def test_a_file_without_a_drawing_has_no_entry(self):

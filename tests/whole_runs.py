@@ -1,38 +1,31 @@
-"""Whole runs of files: each is prepared at the size of its surface, checked, and played on white. They go through the program that answers requests,
-many in one call; some of them go through the built program in bands, too."""
+"""Whole runs of files: each is prepared at the size of its surface, checked, played on white, and once more in bands. They go through the program
+that answers requests, many in one call."""
 
-import pathlib
-import tempfile
 import unittest
 from typing import NamedTuple
 
-from built import PROGRAMS as BUILT
-from built import answer
-from request_program import COUNT, PLAY, PREPARE, PROGRAMS, asked, replies
+from request_program import COUNT, PLAY, PLAY_COMMAND, PREPARE, PROGRAMS, Command, Ended, asked, ended, replies
 
-# The longest side of a surface whose image can be requested.
+# The longest side of a surface whose image can be requested without bands.
 LONGEST_SHOWN = 4096
 
-# A call has about so many bytes of files and images, and at most so many requests. (The answers of a call are split one after another, which takes
-# long if there are many.)
-CALL, MOST = 1 << 20, 1000
+# A call has about so many bytes of files and images, and at most so many requests.
+CALL, MOST = 1 << 22, 2000
 
-# The program that answers requests, and the built one, as both compilers of the toolchain build them. Long loops use the first pair only.
-PAIRS = list(zip(PROGRAMS, BUILT, strict=True))
-
-FIRST = PAIRS[:1]
+# The program that long loops use.
+FIRST = PROGRAMS[:1]
 
 
 class Run(NamedTuple):
-    """A file, the sides of its surface, how many pixels it writes there, the colours of some of them by column and row, its certificate, if the test
-    knows it, and how many rows a band has."""
+    """A file, the sides of its surface, how many rows a band has, how many pixels the file writes, the colours of some of them by column and row, and
+    its certificate, if the test knows it."""
 
     given: bytes
     sides: tuple
+    rows: int
     writes: int
     colours: dict = {}
     certificate: bytes | None = None
-    rows: int = 1
 
     @property
     def area(self):
@@ -41,8 +34,8 @@ class Run(NamedTuple):
 
     @property
     def is_shown(self):
-        """Whether its image is requested, and not its count of writes alone."""
-        return bool(self.colours) and max(self.sides) <= LONGEST_SHOWN
+        """Whether its image is requested without bands, and not its count of writes alone."""
+        return max(self.sides) <= LONGEST_SHOWN
 
     def request(self, certificate):
         """The request to play it by a certificate."""
@@ -58,14 +51,19 @@ class Run(NamedTuple):
                 return False
         return True
 
-    def fault(self, prepared, played):
-        """What is wrong with the answers to its two requests, if anything is."""
+    def fault(self, prepared, played, banded):
+        """What is wrong with the answers to its requests, if anything is."""
         if self.certificate not in (None, prepared[1]):
             return "certificate", *prepared
         line = f"played {self.writes}" if self.is_shown else f"wrote {self.writes}"
         if played[0] != line:
             return prepared[0], played[0], line
-        return ("colours", self.colours) if self.is_shown and not self.has_colours(played[1]) else None
+        header = b"P6\n%d %d\n255\n" % self.sides
+        if banded != Ended(0, banded.out) or not banded.out.startswith(header) or len(banded.out) != len(header) + 3 * self.area:
+            return "bands", banded.status, len(banded.out), banded.err
+        if self.is_shown and played[1] != banded.out:
+            return ("bands differ",)
+        return None if self.has_colours(banded.out) else ("colours", self.colours)
 
 
 def in_calls(items, size_of):
@@ -90,50 +88,23 @@ def all_replies(program, requests):
 def faults(program, runs):
     """The runs with a fault, by their numbers and sides, and what is wrong."""
     number = 0
-    for held in in_calls(runs, lambda run: len(run.given) + 3 * run.area * run.is_shown):
+    for held in in_calls(runs, lambda run: len(run.given) + 3 * run.area):
         prepared = replies(program, [asked(PREPARE, run.sides, run.given) for run in held])
-        played = replies(program, [run.request(text) for run, (_, text) in zip(held, prepared, strict=True)])
-        for run, *answers in zip(held, prepared, played, strict=True):
+        texts = [text for _, text in prepared]
+        played = replies(program, [run.request(text) for run, text in zip(held, texts, strict=True)])
+        commands = [Command(PLAY_COMMAND, run.given, text, run.sides, run.rows) for run, text in zip(held, texts, strict=True)]
+        for run, *answers in zip(held, prepared, played, ended(program, commands), strict=True):
             fault = run.fault(*answers)
             if fault is not None:
                 yield number, run.sides, fault
             number += 1
 
 
-class FilesTest(unittest.TestCase):
-    """A test with a folder of its own."""
-
-    def setUp(self):
-        folder = tempfile.TemporaryDirectory()
-        self.addCleanup(folder.cleanup)
-        self.folder = pathlib.Path(folder.name)
-
-    def path(self, name, data=b""):
-        """A file of these bytes in the test's folder."""
-        path = self.folder / name
-        path.write_bytes(data)
-        return path
-
-
-class RunsTest(FilesTest):
+class RunsTest(unittest.TestCase):
     """Runs with their expected writes and colours."""
 
-    def check_runs(self, runs, pairs=FIRST):
-        """Each run has its certificate, its writes and its colours."""
-        runs = runs if pairs is FIRST else list(runs)
-        for program, _ in pairs:
+    def check_runs(self, runs, programs=FIRST):
+        """Each run has its certificate, its writes and its colours, and the same image in bands."""
+        runs = runs if programs is FIRST else list(runs)
+        for program in programs:
             self.assertEqual(list(faults(program, runs))[:3], [])
-
-    def check_bands(self, runs, pairs=FIRST):
-        """Each run's image in bands is that of the whole surface, and has its colours."""
-        for program, run in [(program, run) for run in runs for _, program in pairs]:
-            words = [str(side) for side in run.sides]
-            file, certificate = self.path("file", run.given), self.path("certificate")
-            self.assertEqual(answer(program, ["prepare", file, *words, certificate]).status, 0, run.sides)
-            white = b"P6\n%d %d\n255\n" % run.sides + b"\xff" * (3 * run.area)
-            whole = answer(program, ["over", file, certificate, self.path("white", white)])
-            self.assertEqual((whole.status, len(whole.out), whole.err), (0, len(white), b""), run.sides)
-            banded = answer(program, ["play", file, certificate, *words, "--bands", str(run.rows)])
-            # Images aren't printed.
-            self.assertTrue(banded == whole, (run.sides, run.rows))
-            self.assertTrue(run.has_colours(banded.out), run.sides)

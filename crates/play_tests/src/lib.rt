@@ -2,7 +2,7 @@
 #![tactic(auto)]
 
 #[cfg(test)]
-mod band_heights;
+mod band_colours;
 #[cfg(test)]
 mod banded;
 #[cfg(test)]
@@ -19,8 +19,6 @@ mod machines;
 mod paths;
 #[cfg(test)]
 mod rows_apart;
-#[cfg(test)]
-mod runs;
 #[cfg(test)]
 mod sources;
 #[cfg(test)]
