@@ -1,4 +1,4 @@
-"""A page of tiles and lines on surfaces of each width and of many heights, with the writes and some pixels by hand. At each of these sizes a run has
+"""A page of tiles and lines on surfaces of many heights and on small ones, with the writes and some pixels by hand. At each of these sizes a run has
 its memory."""
 
 import itertools
@@ -11,7 +11,7 @@ from metafile.fields import BLACK, BLUE, RED, u16
 from metafile.files import wmf_record
 from metafile.scripts import WMF
 from request_program import PROGRAMS
-from surface_sizes_test import HEIGHTS, LONGEST, SOME_SIDES
+from surface_sizes_test import HEIGHTS, SOME_SIDES
 from whole_runs import Run, RunsTest
 
 # A brush with a red column and a blue one as its pattern (META_DIBCREATEPATTERNBRUSH, [MS-WMF] 2.3.4.8), and a pen of width 3; both are selected.
@@ -49,10 +49,6 @@ def page_run(width, height, rows):
 
 class Page(RunsTest):
     """The page with a tile and lines."""
-
-    def test_each_width(self):
-        for height, rows in [(1, 1), (2, 1), (5, 2)]:
-            self.check_runs(page_run(width, height, rows) for width in range(1, LONGEST + 1))
 
     def test_many_heights(self):
         self.check_runs(page_run(1, height, 8192) for height in HEIGHTS)

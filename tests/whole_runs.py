@@ -4,10 +4,7 @@ that answers requests, many in one call."""
 import unittest
 from typing import NamedTuple
 
-from request_program import COUNT, PLAY, PLAY_COMMAND, PREPARE, PROGRAMS, Command, Ended, asked, ended, replies
-
-# The longest side of a surface whose image can be requested without bands.
-LONGEST_SHOWN = 4096
+from request_program import COUNT, OVER, PLAY_COMMAND, PREPARE, PROGRAMS, Command, Ended, asked, ended, replies
 
 # A call has about so many bytes of files and images, and at most so many requests.
 CALL, MOST = 1 << 22, 2000
@@ -33,15 +30,14 @@ class Run(NamedTuple):
         return self.sides[0] * self.sides[1]
 
     @property
-    def is_shown(self):
-        """Whether its image is requested without bands, and not its count of writes alone."""
-        return max(self.sides) <= LONGEST_SHOWN
+    def header(self):
+        """The header of its image."""
+        return b"P6\n%d %d\n255\n" % self.sides
 
-    def request(self, certificate):
-        """The request to play it by a certificate."""
-        if self.is_shown:
-            return asked(PLAY, self.sides, self.given, certificate, b"\xff" * (3 * self.area))
-        return asked(COUNT, self.sides, self.given, certificate)
+    def commands(self, certificate):
+        """The commands that play it by a certificate: over a white image, and in bands."""
+        white = self.header + b"\xff" * (3 * self.area)
+        return Command(OVER, self.given, certificate, image=white), Command(PLAY_COMMAND, self.given, certificate, self.sides, self.rows)
 
     def has_colours(self, image):
         """Whether an image has its colours. Samples are the last part of an image."""
@@ -51,19 +47,17 @@ class Run(NamedTuple):
                 return False
         return True
 
-    def fault(self, prepared, played, banded):
+    def fault(self, prepared, counted, whole, banded):
         """What is wrong with the answers to its requests, if anything is."""
         if self.certificate not in (None, prepared[1]):
             return "certificate", *prepared
-        line = f"played {self.writes}" if self.is_shown else f"wrote {self.writes}"
-        if played[0] != line:
-            return prepared[0], played[0], line
-        header = b"P6\n%d %d\n255\n" % self.sides
-        if banded != Ended(0, banded.out) or not banded.out.startswith(header) or len(banded.out) != len(header) + 3 * self.area:
-            return "bands", banded.status, len(banded.out), banded.err
-        if self.is_shown and played[1] != banded.out:
-            return ("bands differ",)
-        return None if self.has_colours(banded.out) else ("colours", self.colours)
+        if counted[0] != f"wrote {self.writes}":
+            return prepared[0], counted[0], self.writes
+        if whole != Ended(0, whole.out) or len(whole.out) != len(self.header) + 3 * self.area or not whole.out.startswith(self.header):
+            return "no image", whole.status, len(whole.out), whole.err
+        if banded != whole:
+            return "bands differ", banded.status, len(banded.out), banded.err
+        return None if self.has_colours(whole.out) else ("colours", self.colours)
 
 
 def in_calls(items, size_of):
@@ -91,9 +85,9 @@ def faults(program, runs):
     for held in in_calls(runs, lambda run: len(run.given) + 3 * run.area):
         prepared = replies(program, [asked(PREPARE, run.sides, run.given) for run in held])
         texts = [text for _, text in prepared]
-        played = replies(program, [run.request(text) for run, text in zip(held, texts, strict=True)])
-        commands = [Command(PLAY_COMMAND, run.given, text, run.sides, run.rows) for run, text in zip(held, texts, strict=True)]
-        for run, *answers in zip(held, prepared, played, ended(program, commands), strict=True):
+        counted = replies(program, [asked(COUNT, run.sides, run.given, text) for run, text in zip(held, texts, strict=True)])
+        played = ended(program, [command for run, text in zip(held, texts, strict=True) for command in run.commands(text)])
+        for run, *answers in zip(held, prepared, counted, played[::2], played[1::2], strict=True):
             fault = run.fault(*answers)
             if fault is not None:
                 yield number, run.sides, fault
