@@ -218,13 +218,15 @@ fn run_command<O: FaultCount, E: FaultCount>(
             printed: Ok(()),
         };
     }
-    let rows = request.more.rows;
-    let bands = if rows == 0 { None } else { Some(rows) };
     match request.kind {
         4 => show_command(alloc, file, width, height, out, err),
         5 => prepare_command(alloc, file, width, height, out, err),
         6 => check_command(alloc, file, certificate, out, err),
-        7 => play_command(alloc, file, certificate, width, height, bands, out, err),
+        7 => {
+            let rows = request.more.rows;
+            let bands = if rows == 0 { None } else { Some(rows) };
+            play_command(alloc, file, certificate, width, height, bands, out, err)
+        }
         8 => over_command(alloc, file, certificate, request.image, out, err),
         _ => list_command(alloc, file, out, err),
     }
