@@ -2,6 +2,7 @@
 toolchain build it."""
 
 import itertools
+import os
 import struct
 import subprocess
 import unittest
@@ -101,11 +102,6 @@ def ended(program, commands):
 MANY = 2000
 
 
-def shortened(end):
-    """How a command ended, and no more than the front of a long output."""
-    return end._replace(out=(len(end.out), end.out[:400]))
-
-
 class CommandsTest(unittest.TestCase):
     """Tests of commands."""
 
@@ -113,11 +109,18 @@ class CommandsTest(unittest.TestCase):
         """Of pairs of a command and its end, each command ends so."""
         cases = cases if len(programs) == 1 else list(cases)
         for program in programs:
-            wrong, rest = [], iter(cases)
+            rest = iter(cases)
             while some := list(itertools.islice(rest, MANY)):
                 found = ended(program, [command for command, _ in some])
                 self.assertEqual(len(found), len(some))
                 pairs = zip(some, found, strict=True)
-                wrong += [(command, shortened(end), shortened(wanted)) for (command, wanted), end in pairs if end != wanted]
-            for command, end, wanted in wrong[:1]:
-                self.assertEqual(end, wanted, f"{program.name}, {len(wrong)} wrong, the first {command.numbers()}")
+                wrong = [(command, end, wanted) for (command, wanted), end in pairs if end != wanted]
+                if wrong:
+                    self.fail(f"{program.name}: {len(wrong)} of {len(some)} commands end otherwise; {compared(*wrong[0])}")
+
+
+def compared(command, end, wanted):
+    """How a command ended and how it should, with lengths of the outputs, and some of their bytes from where they differ."""
+    place = len(os.path.commonprefix([end.out, wanted.out]))
+    told, sought = (it._replace(out=(len(it.out), place, it.out[place : place + 30])) for it in (end, wanted))
+    return f"{command.numbers()}: {told}, wanted {sought}"

@@ -68,7 +68,7 @@ fn split(bytes: &[u8], count: usize) -> Option<(&[u8], &[u8])> {
 }
 
 /// The first number, and the bytes after it.
-fn number(bytes: &[u8]) -> Option<(u32, &[u8])> {
+fn first_number(bytes: &[u8]) -> Option<(u32, &[u8])> {
     if bytes.len() < 4 {
         return None;
     }
@@ -76,7 +76,7 @@ fn number(bytes: &[u8]) -> Option<(u32, &[u8])> {
 }
 
 /// The first numbers of a command, and the bytes after them.
-fn first_numbers(bytes: &[u8]) -> Option<(Numbers, &[u8])> {
+fn command_numbers(bytes: &[u8]) -> Option<(Numbers, &[u8])> {
     if bytes.len() < 24 {
         return None;
     }
@@ -106,15 +106,15 @@ fn first_colour(bytes: &[u8]) -> Option<(Colour, &[u8])> {
 
 /// The first request, and the bytes after it.
 fn next_request(bytes: &[u8]) -> Option<(Request<'_>, &[u8])> {
-    let (kind, rest) = number(bytes)?;
-    let (width, rest) = number(rest)?;
-    let (height, rest) = number(rest)?;
-    let (of_file, rest) = number(rest)?;
-    let (of_certificate, rest) = number(rest)?;
+    let (kind, rest) = first_number(bytes)?;
+    let (width, rest) = first_number(rest)?;
+    let (height, rest) = first_number(rest)?;
+    let (of_file, rest) = first_number(rest)?;
+    let (of_certificate, rest) = first_number(rest)?;
     let (more, rest) = if kind < 4 {
         (Numbers::NONE, rest)
     } else {
-        first_numbers(rest)?
+        command_numbers(rest)?
     };
     let (file, rest) = split(rest, of_file as usize)?;
     let (certificate, rest) = split(rest, of_certificate as usize)?;
