@@ -5,6 +5,4 @@ mod full_writer;
 mod sample_files;
 
 pub use full_writer::{Full, limited};
-pub use sample_files::{
-    DOT, DOT_CERT, FAR, NIL, NIL_CERT, NOTED, NOTED_CERT, RED, TRI, TRI_CERT, changed,
-};
+pub use sample_files::{DOT, DOT_CERT, RED, TRI, TRI_CERT, changed};
