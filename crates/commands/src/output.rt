@@ -17,7 +17,8 @@ const LONGEST_PATH: usize = 4096;
 /// The capacity for a path: that of a folder, followed by a name of at most 32 bytes.
 const PATH_CAPACITY: usize = LONGEST_PATH + 32;
 
-/// The path of a new file. It allocates no memory, since a write can't report that an allocation failed.
+/// The path of a new file. It allocates no memory, since a write can't report that an allocation failed. It is on the
+/// stack only while a call needs it: where little memory is left, the stack can't grow.
 type NewPath = InlineText<PATH_CAPACITY>;
 
 /// A file that is written beside the named one, and gets its name when it is flushed. Until then, a file of that name
@@ -27,8 +28,8 @@ pub(crate) struct NamedOutput<'a, R: Files + AllocGlobal> {
     rt: &'a R,
     name: &'a str,
     file: Option<R::File>,
-    /// The new file's own path, as long as it has that.
-    new_path: Option<NewPath>,
+    /// The number in the new file's own name, as long as it has that.
+    number: Option<u32>,
 }
 
 /// What has a name.
@@ -46,13 +47,18 @@ impl<'a, R: Files + AllocGlobal> NamedOutput<'a, R> {
             rt,
             name,
             file: None,
-            new_path: None,
+            number: None,
         }
+    }
+
+    /// The new file's own path, as long as it has that.
+    fn new_path(&self) -> Option<NewPath> {
+        path_beside(self.name, self.number?)
     }
 
     /// Removes the new file, unless it has the name that it is for.
     pub(crate) fn remove_unfinished(&self) {
-        if let Some(path) = &self.new_path {
+        if let Some(path) = self.new_path() {
             let _ = fs::remove_file(self.rt, path.as_str());
         }
     }
@@ -65,7 +71,7 @@ impl<'a, R: Files + AllocGlobal> NamedOutput<'a, R> {
             Named::PlainFile(permissions) => {
                 OpenOptions::new().write(true).open(self.rt, self.name)?;
                 self.create_beside()?;
-                match &self.new_path {
+                match self.new_path() {
                     Some(path) => fs::set_permissions(self.rt, path.as_str(), permissions),
                     None => Ok(()),
                 }
@@ -88,7 +94,7 @@ impl<'a, R: Files + AllocGlobal> NamedOutput<'a, R> {
             match options.open(self.rt, path.as_str()) {
                 Ok(file) => {
                     self.file = Some(file);
-                    self.new_path = Some(path);
+                    self.number = Some(number);
                     return Ok(());
                 }
                 Err(error) if error.kind() == ErrorKind::AlreadyExists => {}
@@ -142,9 +148,9 @@ impl<R: Files + AllocGlobal> Write for NamedOutput<'_, R> {
         if let Some(file) = &mut self.file {
             file.flush()?;
         }
-        if let Some(path) = &self.new_path {
+        if let Some(path) = self.new_path() {
             fs::rename(self.rt, path.as_str(), self.name)?;
-            self.new_path = None;
+            self.number = None;
         }
         Ok(())
     }
