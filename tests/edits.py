@@ -40,7 +40,7 @@ EDITS = ROOT / "edits"
 
 # How many functions are edited in one part of a crate at most, and how much memory a check of so many may take, in bytes. Each part proves what
 # its functions call once more, so few large ones are less work than many small ones.
-MOST_FUNCTIONS = 80
+MOST_FUNCTIONS = 100
 MEMORY = 3_000_000_000
 
 
