@@ -19,15 +19,14 @@ use crate::command_line::line;
 use crate::input::InputFault;
 use crate::inputs::{Inputs, read_inputs};
 use crate::list::list_command;
-use crate::output::NamedOutput;
 use crate::over::over_command;
 use crate::play::play_command;
-use crate::prepare::prepare_command;
+use crate::prepare::prepare_to_file;
 use crate::reporting::report;
 use crate::same_file::replaces_its_file;
 use crate::show::show_command;
 use crate::shown::show_error;
-use canvas::{Counting, FaultCount};
+use canvas::FaultCount;
 use clap::error::ErrorKind;
 use std::alloc::Global;
 use std::env;
@@ -167,12 +166,7 @@ fn run_task<R: Files + AllocGlobal, O: FaultCount, E: FaultCount>(
             height,
             output,
             ..
-        } => {
-            let mut output = Counting::new(NamedOutput::new(rt, output));
-            let answer = prepare_command(rt.alloc(), file, width, height, &mut output, err);
-            output.into_writer().remove_unfinished();
-            answer
-        }
+        } => { prepare_to_file(rt, file, width, height, output, err) }
         CommandLine::Check { .. } => check_command(rt.alloc(), file, certificate, out, err),
         CommandLine::Play {
             width,
