@@ -14,7 +14,7 @@ use std::io::Read;
 use std::rt::Files;
 
 /// The word that stands for standard input.
-pub(crate) const STANDARD_INPUT: &str = "stdin";
+const STANDARD_INPUT: &str = "stdin";
 
 /// The bytes of a command's inputs.
 #[derive(Drop)]

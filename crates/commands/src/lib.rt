@@ -3,9 +3,8 @@
 //! # What is promised
 //!
 //! - A parsed command line has surfaces from 1 to 8,192 pixels in width and height, and the files and sizes that its
-//!   words give, as `clap` reads them. The right words for a command are never wrong usage, unless they prepare a
-//!   certificate into the metafile itself. The right words are the command's name, then its file names and sizes in
-//!   order, for `play` with or without bands (`line`, `run_words`).
+//!   words give, as `clap` reads them. The right words for a command are never wrong usage. These are its name, then
+//!   its file names and sizes in order, for `play` with or without bands (`line`, `run_words`).
 //! - An input is read in full, or reading it fails (`read_input`).
 //! - One definition for all commands says what a command writes to its output and to standard error, by how it ends
 //!   (`show_command`, `prepare_command`, `check_command`, `play_command`, `over_command`, `list_command`, by `Writes`
@@ -54,7 +53,6 @@ mod prepare;
 mod preparing;
 mod program;
 mod reporting;
-mod same_file;
 mod show;
 mod shown;
 

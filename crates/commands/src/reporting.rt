@@ -91,7 +91,7 @@ fn with_number(
 }
 
 /// A text followed by another text, if it fits.
-pub(crate) fn joined<const N: usize>(text: InlineText<N>, more: &str) -> InlineText<N>
+fn joined<const N: usize>(text: InlineText<N>, more: &str) -> InlineText<N>
     requires { length (inline_text text) + length more.now ≤ N }
     ensures { inline_text result ≡ inline_text text.entry ++ more.now }
 {
