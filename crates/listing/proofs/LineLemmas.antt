@@ -1,37 +1,23 @@
 -- The lines of records, one record after another.
 use Rattle.std.proofs.Common.{◌≡◌, ℕ, suc, ◌+◌, Bool, true, false, eqb, List, [], ◌++◌, length, Option, Result, Ok, Err, refl, sym, ap, ◌∙◌, arith}
-use Rattle.std.proofs.lemmas.Bool.{eqb-true}
 use Rattle.std.proofs.lemmas.List.{append_assoc}
 use Rattle.draw_ops.specs.Content.{StepValue}
 use Rattle.draw_ops.specs.Framed.{ahead}
-use Rattle.draw_ops.specs.Meaning.{Meaning, DecodedValue, step_of, step_decoded}
 use Rattle.draw_ops.specs.Records.{Framed, Framing, Record}
-use Rattle.draw_ops.specs.Results.{result_map}
 use Rattle.draw_ops.specs.RecordOf.{record_of}
 use Rattle.listing.specs.Walk.{GivesRecord}
 use Rattle.listing.specs.WalkState.{Walk}
 use Rattle.draw_ops.specs.declared.record_fault.RecordFault.{RecordFault}
 use Rattle.listing.specs.declared.record_walk.PlacedRecord.{PlacedRecord}
-use Rattle.meta_headers.specs.Opening.{framing_of, meaning_of}
+use Rattle.meta_headers.specs.Opening.{framing_of}
 use Rattle.meta_headers.specs.declared.opened.FileFormat.{FileFormat}
 use Rattle.listing.specs.DryRunState.{DryRunState, after_record, fault_in_runs}
 use Rattle.listing.specs.Line.{line_of}
 use Rattle.listing.specs.Listing.{lines_of, lines_of_framed, step_in}
+use Rattle.listing.specs.SameStep.{same_step_in}
 use Rattle.listing.specs.Putting.{Coming, PutsLine, coming, listing_left}
 use Rattle.canvas.specs.Sending.{Sending}
 use Rattle.canvas.specs.Sending.{sending_none}
-
--- a record that doesn't end the file has the same step, whatever lies behind the end
-by_last : (b : Bool) (one other : List ℕ) (number : ℕ) (decoded : Result DecodedValue RecordFault) → (b ≡ true → one ≡ other) → result_map (step_decoded b one number) decoded ≡ result_map (step_decoded b other number) decoded
-by_last true one other number decoded same = ap (λ (after : List ℕ). result_map (step_decoded true after number) decoded) (same refl)
-by_last false one other number (Ok decoded) same = refl
-by_last false one other number (Err fault) same = refl
-
-same_step : (f : Framing) (meaning : Meaning) (one other : List ℕ) (number : ℕ) (r : Record) → (r.kind ≡ f.end_kind → one ≡ other) → step_of f meaning one number r ≡ step_of f meaning other number r
-same_step f meaning one other number r same = by_last (eqb r.kind f.end_kind) one other number (meaning number r) (λ last. same (eqb-true _ _ last))
-
-pub same_step_in : (format : FileFormat) (one other : List ℕ) (number : ℕ) (r : Record) → (r.kind ≡ (framing_of format).end_kind → one ≡ other) → step_in format one number r ≡ step_in format other number r
-same_step_in format one other number r same = same_step (framing_of format) (meaning_of format) one other number r same
 
 -- a walk at its start: nothing was sent, and all lines are left
 pub begins : (known : Option (List ℕ)) (format : FileFormat) (dry_run_state : Option DryRunState) (framed : Framed) (place : ℕ) (buffer : List ℕ) (walk : Walk) → buffer ≡ [] → walk.number ≡ 0 → walk.place ≡ place → walk.framed ≡ framed → Sending known known (lines_of_framed format dry_run_state 0 place framed) (buffer ++ listing_left format (coming walk dry_run_state))

@@ -22,7 +22,7 @@
 //!   returned.
 //! - A walk returns the records of some bytes in order, each with its number and its offset, and then nothing or the
 //!   fault at which they break (`RecordWalk::new`, `RecordWalk::next_record`, by `GivesNext`). A record is decoded
-//!   separately (`PlacedRecord::step`).
+//!   separately (`PlacedRecord::step`, or `step_in` for a file's format).
 //! - Where a file's records begin depends on its format (`records_in`).
 //! - Each function of WMF and each type of EMF in the table of kinds has a name, and no others have (`function_name`,
 //!   `wmf_names_law`, `type_name`, `emf_names_law`).
@@ -50,6 +50,7 @@ pub use dry_run::DryRun;
 pub use emf_names::{emf_names_law, type_name};
 pub use formats::{first_place, records_in};
 pub use laws::listing_law;
+pub use line::step_in;
 pub use listing_end::ListingEnd;
 pub use listing_output::{write_listing, write_listing_to};
 pub use record_walk::{PlacedRecord, RecordWalk};

@@ -127,10 +127,7 @@ fn put_decoded(
 }
 
 /// The step of a record of a format, or its first fault.
-pub(crate) fn step_in<'a>(
-    format: FileFormat,
-    given: PlacedRecord<'a>,
-) -> Result<Step<'a>, RecordFault>
+pub fn step_in<'a>(format: FileFormat, given: PlacedRecord<'a>) -> Result<Step<'a>, RecordFault>
     ensures { placed_step_in format given.entry ≡ result_map step_value_of result }
 {
     match format {

@@ -1,8 +1,9 @@
 //! The records of a file, one by one, each with its offset, in any format.
 
-ghost use Rattle.std.specs.Prelude.{◌≡◌, ◌+◌, ◌<◌, ◌^◌, length};
+ghost use Rattle.std.specs.Prelude.{◌≡◌, ◌+◌, ◌<◌, ◌≤◌, ◌^◌, length};
 ghost use Rattle.draw_ops.specs.Framed.{framed_of};
 ghost use Rattle.draw_ops.specs.Meaning.{end_notes};
+ghost use Rattle.draw_ops.specs.Records.{record_limit};
 ghost use Rattle.draw_ops.specs.NoteSet.{notes_in};
 ghost use Rattle.listing.specs.Walk.{GivesNext};
 
@@ -84,7 +85,8 @@ impl<'a, F: Format> RecordWalk<'a, F> {
 
     /// The number in the file of the next record.
     pub fn number(&self) -> u32
-        ensures { result ≡ self.now.number }
+        ensures value { result ≡ self.now.number }
+        ensures within { result ≤ record_limit }
     {
         self.number
     }

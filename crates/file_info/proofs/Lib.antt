@@ -1,0 +1,4 @@
+pub mod CountingLemmas
+pub mod FaultCountLemmas
+pub mod TextLemmas
+pub mod PlayingLemmas

@@ -1,0 +1,108 @@
+-- The text of a report in pieces: the first members, the faults, and the last members.
+use Rattle.std.proofs.Common.{◌≡◌, ◌∙◌, ◌||◌, ℕ, Bool, true, false, List, [], ◌∷◌, ◌++◌, Option, Some, None, ℤ, pos, negsuc, drop, codes, refl, sym, ap}
+use Rattle.std.proofs.lemmas.List.{append_assoc}
+use Rattle.serde_json.specs.Data.{Data, Items, Members, array, boolean, member, no_members, null, object, put, string}
+use Rattle.serde_json.specs.Written.{compact_text, has_float, items_text, members_have_float, members_text}
+use Rattle.mapping.specs.declared.geometry.Rect.{Rect}
+use Rattle.meta_headers.specs.declared.opened.FileFormat.{FileFormat}
+use Rattle.report_parts.specs.Parts.{notes_data, report_text, whole_if}
+use Rattle.report_parts.specs.Whole.{if_whole, notes_whole, put_whole}
+use Rattle.file_info.specs.Info.{is_playing}
+use Rattle.file_info.specs.InfoReport.{counted_items, first_members, format_data, frame_data, info_line, joined, kind_if, last_members, objects_if, paper_if, record_if, records_data, size_data}
+use Rattle.file_info.specs.JoinedText.{PutsFaults, faults_text, open_text}
+use Rattle.file_info.specs.declared.info.FileInfo.{FileInfo}
+use Rattle.file_info.specs.declared.paper.Paper.{Paper}
+use Rattle.file_info.specs.declared.paper.Sizes.{Sizes}
+
+-- whether there is a member
+abbrev starts : Members → Bool
+starts no_members = false
+starts (member name value more) = true
+
+-- the text of members is the open one and a brace
+pub closed : (later : Bool) (members : Members) → members_text later members ≡ open_text later members ++ 125 ∷ []
+closed later no_members = refl
+closed later (member name value members) = let e = closed true members in simp (e, append_assoc)
+
+-- the text of members that are followed by others
+pub joined_text : (later : Bool) (members others : Members) → members_text later (joined members others) ≡ open_text later members ++ members_text (later || starts members) others
+joined_text false no_members others = refl
+joined_text true no_members others = refl
+joined_text false (member name value members) others = let e = joined_text true members others in simp (e, append_assoc)
+joined_text true (member name value members) others = let e = joined_text true members others in simp (e, append_assoc)
+
+-- a comma goes before members that come later
+later_text : (members : Members) → starts members ≡ true → members_text true members ≡ 44 ∷ members_text false members
+later_text no_members is = let bad : false ≡ true = is in cc
+later_text (member name value more) is = refl
+
+-- pieces of a text in another order of joining
+pieces : (begun name items last : List ℕ) → ((123 ∷ begun) ++ (44 ∷ (name ++ 58 ∷ 91 ∷ (items ++ 44 ∷ [])))) ++ last
+    ≡ 123 ∷ (begun ++ (44 ∷ (name ++ 58 ∷ 91 ∷ (items ++ 44 ∷ last))))
+pieces begun name items last = simp append_assoc
+
+module _ (first last : Members) (items : Items) (starts_last : starts last ≡ true) (starts_first : starts first ≡ true) where
+  -- the text of all members
+  whole_text : compact_text (object (joined first (member (codes "faults") (array items) last)))
+      ≡ 123 ∷ (open_text false first ++ (44 ∷ (compact_text (string (codes "faults")) ++ 58 ∷ 91 ∷ (items_text false items ++ 44 ∷ members_text false last))))
+  whole_text =
+      let there = joined_text false first (member (codes "faults") (array items) last) in
+      let there_first : members_text false (joined first (member (codes "faults") (array items) last))
+      ≡ open_text false first ++ members_text true (member (codes "faults") (array items) last) = rw starts_first at there in
+      ap (λ (t : List ℕ). 123 ∷ t) there_first
+      ∙ ap (λ (t : List ℕ). 123 ∷ (open_text false first ++ (44 ∷ (compact_text (string (codes "faults")) ++ 58 ∷ 91 ∷ (items_text false items ++ t)))))
+      (later_text last starts_last)
+
+  -- all members from their pieces
+  all_pieces : (text with_faults : List ℕ) → text ≡ compact_text (object first) → PutsFaults items text with_faults
+      → with_faults ++ drop 1 (compact_text (object last)) ≡ compact_text (object (joined first (member (codes "faults") (array items) last)))
+  all_pieces text with_faults is puts =
+      let ends : text ≡ (123 ∷ open_text false first) ++ 125 ∷ [] = is ∙ ap (λ (t : List ℕ). 123 ∷ t) (closed false first) in
+      ap (λ (t : List ℕ). t ++ members_text false last) (puts (123 ∷ open_text false first) ends)
+      ∙ (pieces (open_text false first) (compact_text (string (codes "faults"))) (items_text false items) (members_text false last) ∙ sym whole_text)
+
+-- the line of a file from its pieces
+pub in_pieces : (name : List ℕ) (info : FileInfo) (text with_faults : List ℕ) → text ≡ compact_text (object (first_members info))
+    → PutsFaults (counted_items info.totals.faults) text with_faults
+    → (with_faults ++ drop 1 (compact_text (object (last_members name info)))) ++ 10 ∷ [] ≡ info_line name info
+in_pieces name info text with_faults is puts =
+    ap (λ (t : List ℕ). t ++ 10 ∷ []) (all_pieces (first_members info) (last_members name info) (counted_items info.totals.faults) refl refl text with_faults is puts)
+
+-- all numbers of the last members are integers
+format_whole : (format : Option FileFormat) → has_float (format_data format) ≡ false
+format_whole None = refl
+format_whole (Some format) = refl
+
+records_whole : (format : Option FileFormat) (records : ℕ) → has_float (records_data format records) ≡ false
+records_whole None records = refl
+records_whole (Some format) records = refl
+
+frame_whole : (sizes : Option Sizes) → has_float (frame_data sizes) ≡ false
+frame_whole None = refl
+frame_whole (Some sizes) = refl
+
+size_whole : (paper : Option Paper) → has_float (size_data paper) ≡ false
+size_whole None = refl
+size_whole (Some paper) = refl
+
+pub last_whole : (name : List ℕ) (info : FileInfo) → has_float (object (last_members name info)) ≡ false
+last_whole name info =
+    let m0 = put (codes "size") (size_data (paper_if info.sizes)) no_members in
+    let e0 : members_have_float m0 ≡ false = put_whole (codes "size") (size_data (paper_if info.sizes)) no_members (size_whole (paper_if info.sizes)) refl in
+    let m1 = put (codes "records") (records_data info.format info.totals.records) m0 in
+    let e1 : members_have_float m1 ≡ false = put_whole (codes "records") (records_data info.format info.totals.records) m0 (records_whole info.format info.totals.records) e0 in
+    let m2 = put (codes "record") (whole_if (record_if info.playing)) m1 in
+    let e2 : members_have_float m2 ≡ false = put_whole (codes "record") (whole_if (record_if info.playing)) m1 (if_whole (record_if info.playing)) e1 in
+    let m3 = put (codes "plays") (boolean (is_playing info.playing)) m2 in
+    let e3 : members_have_float m3 ≡ false = put_whole (codes "plays") (boolean (is_playing info.playing)) m2 refl e2 in
+    let m4 = put (codes "objects") (whole_if (objects_if info.playing)) m3 in
+    let e4 : members_have_float m4 ≡ false = put_whole (codes "objects") (whole_if (objects_if info.playing)) m3 (if_whole (objects_if info.playing)) e3 in
+    let m5 = put (codes "number") (whole_if (kind_if info.playing)) m4 in
+    let e5 : members_have_float m5 ≡ false = put_whole (codes "number") (whole_if (kind_if info.playing)) m4 (if_whole (kind_if info.playing)) e4 in
+    let m6 = put (codes "notes") (notes_data info.totals.notes.counts) m5 in
+    let e6 : members_have_float m6 ≡ false = put_whole (codes "notes") (notes_data info.totals.notes.counts) m5 (notes_whole info.totals.notes.counts) e5 in
+    let m7 = put (codes "frame") (frame_data info.sizes) m6 in
+    let e7 : members_have_float m7 ≡ false = put_whole (codes "frame") (frame_data info.sizes) m6 (frame_whole info.sizes) e6 in
+    let m8 = put (codes "format") (format_data info.format) m7 in
+    let e8 : members_have_float m8 ≡ false = put_whole (codes "format") (format_data info.format) m7 (format_whole info.format) e7 in
+    put_whole (codes "file") (string name) m8 refl e8

@@ -1,0 +1,65 @@
+-- What is known of a file without a certificate.
+use Rattle.std.specs.Prelude.{◌≡◌, ◌≤◌, ℕ, List, length, Option, Some, None, Result, Ok, Err, Bool, true, false}
+use Rattle.mapping.specs.Image.{Image}
+use Rattle.mapping.specs.Limits.{surface_side_limit}
+use Rattle.draw_ops.specs.declared.fault.Fault.{Fault}
+use Rattle.meta_headers.specs.Formats.{format_of}
+use Rattle.meta_headers.specs.Headers.{OpenedValue}
+use Rattle.meta_headers.specs.Opening.{opened}
+use Rattle.preflight_cert.specs.Answer.{Shows}
+use Rattle.preflight_cert.specs.CertificateReading.{CertificateValue, read_certificate}
+use Rattle.preflight_cert.specs.Preparation.{Prepares}
+use Rattle.preflight_cert.specs.Run.{Rejected}
+use Rattle.file_info.specs.Counting.{HasTotals}
+use Rattle.file_info.specs.Paper.{emf_frame_in, paper_in}
+use Rattle.file_info.specs.Totals.{totals_of}
+use Rattle.file_info.specs.declared.info.FileInfo.{FileInfo}
+use Rattle.file_info.specs.declared.paper.Sizes.{Sizes}
+use Rattle.file_info.specs.declared.playing.Playing.{Playing}
+use Rattle.file_info.specs.declared.playing.Playing.TheVariants.{Plays, Stops}
+
+-- the sizes in the headers of an opened file
+abbrev pub sizes_of : List ℕ → OpenedValue → Sizes
+sizes_of file o = record {
+  frame_width = o.frame_width;
+  frame_height = o.frame_height;
+  paper = paper_in o.format file o.frame_width o.frame_height;
+  emf_frame = emf_frame_in o.format file;
+}
+
+-- the sizes in a file's headers, if they have no fault
+abbrev pub sizes_if : Result OpenedValue Fault → List ℕ → Option Sizes
+sizes_if (Err fault) file = None
+sizes_if (Ok o) file = Some (sizes_of file o)
+
+-- a certificate is prepared for a file at the largest bound, with an entry for each of this many drawings, and this many
+-- places for objects
+pub record PlaysLargest (file : List ℕ) (drawings objects : ℕ) : Type 0 where
+  pub bytes : List ℕ
+  pub certificate : CertificateValue
+  pub prepared : Prepares file surface_side_limit surface_side_limit bytes
+  pub read : read_certificate bytes ≡ Ok certificate
+  pub all : drawings ≡ length certificate.entries
+  pub most : objects ≡ certificate.needs.slots
+
+-- how a file's run on the largest surface ends
+abbrev pub IsPlaying : List ℕ → Playing → Type 0
+IsPlaying file (Plays drawings objects) = PlaysLargest file drawings objects
+IsPlaying file (Stops r) = Rejected file surface_side_limit surface_side_limit r.number r.fault
+
+-- What is known of a file: its format, the sizes in its headers, the totals of its records, and how its run on the
+-- largest surface ends.
+pub record IsInfoOf (file : List ℕ) (info : FileInfo) : Type 0 where
+  pub format : info.format ≡ format_of file
+  pub sizes : info.sizes ≡ sizes_if (opened file) file
+  pub totals : HasTotals info.totals (totals_of file)
+  pub playing : IsPlaying file info.playing
+
+-- the file plays on every surface, over any image
+abbrev pub PlaysEverywhere : List ℕ → Type 0
+PlaysEverywhere file = (width height : ℕ) (image : Image) → width ≤ surface_side_limit → height ≤ surface_side_limit → Shows file width height image
+
+-- the file's run has no fault
+abbrev pub is_playing : Playing → Bool
+is_playing (Plays drawings objects) = true
+is_playing (Stops r) = false

@@ -1,0 +1,27 @@
+-- The text of an object in pieces.
+use Rattle.std.specs.Prelude.{◌≡◌, ℕ, Bool, true, false, List, [], ◌∷◌, ◌++◌, codes}
+use Rattle.serde_json.specs.Data.{Items, Members, member, no_members, string}
+use Rattle.file_info.specs.InfoReport.{counted_data}
+use Rattle.file_info.specs.declared.fault_count.FaultCount.{FaultCount}
+use Rattle.serde_json.specs.Written.{comma_if, compact_text, items_text, members_text}
+
+-- the text of members without the brace after them
+abbrev pub open_text : Bool → Members → List ℕ
+open_text later no_members = []
+open_text later (member name value members) = comma_if later ++ (compact_text (string name) ++ 58 ∷ (compact_text value ++ open_text true members))
+
+-- a comma, the name `faults`, and the beginning of a list
+abbrev pub faults_head : List ℕ
+faults_head = 44 ∷ (compact_text (string (codes "faults")) ++ 58 ∷ 91 ∷ [])
+
+-- the text of the member `faults`, between commas
+abbrev pub faults_text : Items → List ℕ
+faults_text items = 44 ∷ (compact_text (string (codes "faults")) ++ 58 ∷ 91 ∷ (items_text false items ++ 44 ∷ []))
+
+-- the text of a fault that was counted, after a comma if it isn't the first
+abbrev pub item_text : Bool → FaultCount → List ℕ
+item_text later counted = comma_if later ++ compact_text (counted_data counted)
+
+-- a text ends with a brace, and the member `faults` takes its place
+abbrev pub PutsFaults : Items → List ℕ → List ℕ → Type 0
+PutsFaults items old new = (start : List ℕ) → old ≡ start ++ 125 ∷ [] → new ≡ start ++ faults_text items

@@ -1,0 +1,7 @@
+pub mod Counting
+pub mod FaultCounts
+pub mod Info
+pub mod InfoReport
+pub mod JoinedText
+pub mod Paper
+pub mod Totals

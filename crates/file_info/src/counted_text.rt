@@ -1,0 +1,61 @@
+//! The text of the faults that were counted.
+
+ghost use Rattle.std.specs.Prelude.{◌≡◌, ◌++◌, IfOk, OnOk, false};
+ghost use Rattle.serde_json.specs.View.{view};
+ghost use Rattle.serde_json.specs.Written.{items_text};
+ghost use Rattle.file_info.specs.InfoReport.{counted_data, counted_items};
+ghost use Rattle.file_info.specs.JoinedText.{item_text};
+
+use crate::fault_count::FaultCount;
+use crate::fault_counts::FaultCounts;
+use crate::playing_values::number_value;
+use report_parts::compact_text_of;
+use serde_json::{Value, json};
+use std::alloc::{AllocError, Global};
+
+/// Appends an object for each fault that was counted, with commas between them, and a closing bracket.
+pub(crate) fn put_counted(
+    alloc: Global,
+    text: &mut Vec<u8>,
+    faults: &FaultCounts,
+) -> Result<(), AllocError>
+    ensures { OnOk result (text.new.items ≡ text.old.items ++ items_text false (counted_items faults.now)) }
+{
+    let mut is_later = false;
+    for (_, counted) in &faults.counts {
+        put_item(alloc, text, is_later, *counted)?;
+        is_later = true;
+    }
+    text.push(b']')?;
+    Ok(())
+}
+
+/// Appends an item, after a comma if it isn't the first.
+fn put_item(
+    alloc: Global,
+    text: &mut Vec<u8>,
+    is_later: bool,
+    counted: FaultCount,
+) -> Result<(), AllocError>
+    ensures { OnOk result (text.new.items ≡ text.old.items ++ item_text is_later counted) }
+{
+    let item = counted_value(alloc, counted)?;
+    let part = compact_text_of(alloc, &item)?;
+    if is_later {
+        text.push(b',')?;
+    }
+    text.extend_from_slice(part.as_slice())?;
+    Ok(())
+}
+
+/// A fault with how often it occurs.
+fn counted_value(alloc: Global, counted: FaultCount) -> Result<Value, AllocError>
+    ensures { IfOk result (λ value. view value ≡ counted_data counted) }
+{
+    let number = number_value(counted.fault.number());
+    json!(in alloc; {
+        "count": counted.count,
+        "fault": counted.fault.name(),
+        "number": number,
+    })
+}

@@ -1,0 +1,17 @@
+//! What is known of a file without a certificate.
+
+use crate::paper::Sizes;
+use crate::playing::Playing;
+use crate::totals::Totals;
+use meta_headers::FileFormat;
+
+/// What is known of a file without a certificate.
+#[derive(Drop)]
+pub struct FileInfo {
+    /// The format by the file's first bytes, if a metafile begins so.
+    pub format: Option<FileFormat>,
+    /// The sizes that the headers give. `None` if they have a fault.
+    pub sizes: Option<Sizes>,
+    pub totals: Totals,
+    pub playing: Playing,
+}

@@ -1,0 +1,70 @@
+//! Values in the report about a file: how its run on the largest surface ends.
+
+ghost use Rattle.std.specs.Prelude.{◌≡◌, IfOk};
+ghost use Rattle.serde_json.specs.View.{view};
+ghost use Rattle.report_parts.specs.Parts.{whole_if};
+ghost use Rattle.file_info.specs.InfoReport.{drawings_if, fault_if, kind_if, objects_if, record_if, text_if};
+
+use crate::playing::Playing;
+use serde_json::Value;
+use std::alloc::{AllocError, Global};
+
+/// The number of drawings, or null if the file doesn't play.
+pub(crate) fn drawings_value(playing: Playing) -> Value
+    ensures { view result ≡ whole_if (drawings_if playing) }
+{
+    match playing {
+        Playing::Plays { drawings, .. } => Value::from(drawings),
+        Playing::Stops(_) => Value::Null,
+    }
+}
+
+/// The number of places for objects, or null if the file doesn't play.
+pub(crate) fn objects_value(playing: Playing) -> Value
+    ensures { view result ≡ whole_if (objects_if playing) }
+{
+    match playing {
+        Playing::Plays { objects, .. } => Value::from(objects),
+        Playing::Stops(_) => Value::Null,
+    }
+}
+
+/// The name of the first fault, or null if the file plays.
+pub(crate) fn fault_value(alloc: Global, playing: Playing) -> Result<Value, AllocError>
+    ensures { IfOk result (λ value. view value ≡ text_if (fault_if playing)) }
+{
+    match playing {
+        Playing::Plays { .. } => Ok(Value::Null),
+        Playing::Stops(refusal) => Value::try_from_str(alloc, refusal.fault.name()),
+    }
+}
+
+/// The kind of record that the first fault refers to, or null if there is none.
+pub(crate) fn kind_value(playing: Playing) -> Value
+    ensures { view result ≡ whole_if (kind_if playing) }
+{
+    match playing {
+        Playing::Plays { .. } => Value::Null,
+        Playing::Stops(refusal) => number_value(refusal.fault.number()),
+    }
+}
+
+/// The number of the record that the first fault lies in, or null if there is none.
+pub(crate) fn record_value(playing: Playing) -> Value
+    ensures { view result ≡ whole_if (record_if playing) }
+{
+    match playing {
+        Playing::Plays { .. } => Value::Null,
+        Playing::Stops(refusal) => number_value(refusal.number),
+    }
+}
+
+/// A number, or null if there is none.
+pub(crate) fn number_value(number: Option<u32>) -> Value
+    ensures { view result ≡ whole_if number }
+{
+    match number {
+        Some(number) => Value::from(number),
+        None => Value::Null,
+    }
+}
