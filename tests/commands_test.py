@@ -136,12 +136,6 @@ class Prepare(CommandTest):
         self.assertEqual(told, CANNOT_WRITE)
         self.assertEqual(self.kept(output), b"as it was")
 
-    @for_each_program
-    def test_the_file_itself_may_get_the_certificate(self, program):
-        both = self.file("both", DOT)
-        self.assertEqual(answer(program, ["prepare", both, "4", "4", both]), DONE)
-        self.assertEqual(self.kept(both), DOT_CERT)
-
 
 class Check(CommandTest):
     """`check FILE CERT`."""

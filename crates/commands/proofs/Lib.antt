@@ -1,13 +1,7 @@
-pub mod AppLemmas
-pub mod AskedLemmas
 pub mod FailureLemmas
-pub mod KindLemmas
 pub mod LineLemmas
 pub mod ListLemmas
 pub mod PlayLemmas
 pub mod PreparedLemmas
 pub mod ReportLemmas
-pub mod SideLemmas
-pub mod TakenLemmas
 pub mod TextLemmas
-pub mod WordLemmas

@@ -1,19 +1,19 @@
 -- What a task writes is what its command line writes, and that is what the words write.
-use Rattle.std.proofs.Common.{◌≡◌, ◌⊎◌, inl, inr, ℕ, List, Option}
+use Rattle.std.proofs.Common.{◌≡◌, ◌⊎◌, codes, inl, inr, ℕ, List, Option}
 use Rattle.std.specs.Io.KnownBytes.{Keeps}
 use Rattle.clap.specs.Words.{Text}
-use Rattle.commands.specs.CommandLine.{HoldsOfAsked, IsAskedByWords}
+use Rattle.command_lines.specs.CommandLine.{HoldsOfAsked, IsAskedByWords}
 use Rattle.commands.specs.Ends.{PrintsBy}
-use Rattle.commands.specs.Lines.{ErrBy, ErrOfSome, ErrOfWords, IsInput, LineWrites, OutBy, OutOfSome, OutOfWords, task_of}
+use Rattle.commands.specs.Lines.{ErrBy, ErrOfSome, ErrOfWords, IsInput, LineWrites, OutBy, OutOfSome, OutOfWords, PreparesNamedFile, task_of}
 use Rattle.commands.specs.Faults.{input_end, fault_text}
 use Rattle.commands.specs.Report.{Reports, Printed}
-use Rattle.commands.specs.Dimensions.{HasDimensions, HoldsOfSome, file_of}
+use Rattle.command_lines.specs.Dimensions.{HasDimensions, HoldsOfSome, file_of}
 use Rattle.commands.specs.declared.command_end.CommandEnd.{CommandEnd}
 use Rattle.commands.specs.declared.command_end.CommandEnd.TheVariants as end
-use Rattle.commands.specs.declared.asked.CommandLine.{CommandLine}
+use Rattle.command_lines.specs.declared.asked.CommandLine.{CommandLine}
 use Rattle.commands.specs.declared.input.InputFault.{InputFault}
 use Rattle.commands.specs.declared.input.InputFault.TheVariants as fault
-use Rattle.commands.specs.declared.asked.CommandLine.TheVariants.{Check, List as ListLine, Over, Play, Prepare, Show}
+use Rattle.command_lines.specs.declared.asked.CommandLine.TheVariants.{Check, List as ListLine, Over, Play, Prepare, Show}
 
 -- if an allocation failed, a task has written nothing
 kept : (line : CommandLine) (file certificate image : List ℕ) (old new : Option (List ℕ)) → LineWrites line (task_of line file certificate image) end.OutOfMemory old new → Keeps old new
@@ -76,8 +76,22 @@ module _ (words : List Text) (line : CommandLine) (input : Option (List ℕ)) (d
   err_of_line end.OutOfMemory printed old new fact = fact
   err_of_line end.WrongUsage printed old new fact = tt
 
-  pub no_usage : (old new : Option (List ℕ)) → OutBy end.WrongUsage line input old new → ⊥
-  no_usage old new fact = fact
+  -- a parsed command line is wrong usage only if OUT is FILE, and nothing is written then
+  pub usage_of_line : (e : CommandEnd) (printed : Printed) (old new : Option (List ℕ)) → ErrBy e line input printed old new → e ≡ end.WrongUsage → HoldsOfAsked words PreparesNamedFile × Reports printed old new (codes "OUT is FILE")
+  usage_of_line end.WrongUsage printed old new (names, reports) is = (record { line = line; dimensions = dimensions; asked = asked; fact = names }, reports)
+  usage_of_line end.Done printed old new fact is = absurd cc
+  usage_of_line end.Rejected printed old new fact is = absurd cc
+  usage_of_line end.CannotWrite printed old new fact is = absurd cc
+  usage_of_line end.CannotRead printed old new fact is = absurd cc
+  usage_of_line end.OutOfMemory printed old new fact is = absurd cc
+
+  pub usage_unwritten : (e : CommandEnd) (old new : Option (List ℕ)) → OutBy e line input old new → e ≡ end.WrongUsage → Keeps old new
+  usage_unwritten end.WrongUsage old new (names, keeps) is = keeps
+  usage_unwritten end.Done old new fact is = absurd cc
+  usage_unwritten end.Rejected old new fact is = absurd cc
+  usage_unwritten end.CannotWrite old new fact is = absurd cc
+  usage_unwritten end.CannotRead old new fact is = absurd cc
+  usage_unwritten end.OutOfMemory old new fact is = absurd cc
 
 -- what holds for a parsed command line holds for one that the words give
 pub holds_of_line : (words : List Text) (line : CommandLine) (holds : CommandLine → Type 0) → HasDimensions line → IsAskedByWords words line → holds line → HoldsOfAsked words holds

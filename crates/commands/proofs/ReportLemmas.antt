@@ -1,16 +1,9 @@
 -- All numbers of a report are integers, and it has as many drawings as there are entries.
-use Rattle.std.proofs.Common.{◌≡◌, ◌∙◌, ◌⊎◌, inl, inr, ap, subst, sym, Result, Ok, Bool, true, false, cond, ℕ, List, [], ◌∷◌, length, Option, Some, None, Ordering, Less, Equal, Greater, nat_cmp, codes, refl}
-use Rattle.std.specs.Prelude.{◌==◌}
-use Rattle.std.specs.Cmp.Lexicographic.{slice_cmp}
-use Rattle.std.specs.Ordering.{match_ordering}
-use Rattle.std.proofs.lemmas.Bool.{or_parts, or_from}
-use Rattle.serde_json.specs.Data.{Data, Members, boolean, member, no_members, put, string}
+use Rattle.std.proofs.Common.{◌≡◌, ◌∙◌, ◌⊎◌, inl, inr, ap, subst, sym, Result, Ok, true, false, ℕ, List, [], ◌∷◌, length, Option, codes, refl}
+use Rattle.serde_json.specs.Data.{Data, boolean, no_members, put, string}
 use Rattle.serde_json.specs.Written.{has_float, members_have_float}
 use Rattle.mapping.specs.Surface.{Surface}
-use Rattle.draw_ops.specs.NoteCounts.{note_count}
-use Rattle.draw_ops.specs.NoteTable.{note_row_of}
 use Rattle.draw_ops.specs.declared.fault.Fault.{Fault}
-use Rattle.draw_ops.specs.declared.note.Note.{Note}
 use Rattle.draw_ops.specs.declared.fault.Fault.TheVariants.{OutOfMemory}
 use Rattle.dc_stack.specs.State.{start_of}
 use Rattle.meta_headers.specs.File.{IsOpenedFrom}
@@ -32,29 +25,10 @@ use Rattle.draw_ops.specs.FaultTable.{fault_row}
 use Rattle.preflight_cert.specs.declared.cleared.Cleared.{Cleared}
 use Rattle.preflight_cert.specs.declared.refusal.Refusal.{Refusal}
 use Rattle.meta_headers.specs.Formats.{format_name}
-use Rattle.commands.specs.CheckReport.{ReportsAccepted, ReportsRejected, accepted_report, all_kinds, needs_data, noted_kinds, notes_data, rejected_report, report_text, dimensions, whole, whole_if}
+use Rattle.report_parts.specs.Parts.{notes_data, pair, report_text, whole, whole_if}
+use Rattle.report_parts.specs.Whole.{if_whole, notes_whole, put_whole}
+use Rattle.commands.specs.CheckReport.{ReportsAccepted, ReportsRejected, accepted_report, needs_data, rejected_report}
 use Rattle.commands.specs.ClearedFiles.{report_of}
-
-put_whole : (k : List ℕ) (d : Data) (ms : Members) → has_float d ≡ false → members_have_float ms ≡ false → members_have_float (put k d ms) ≡ false
-put_whole k d no_members one others = or_from _ _ one refl
-put_whole k d (member l e ms) one others =
-    let parts = or_parts (has_float e) (members_have_float ms) others in
-    go (slice_cmp nat_cmp k l) parts.0 parts.1 (put_whole k d ms one parts.1)
-  where
-    go : (o : Ordering) → has_float e ≡ false → members_have_float ms ≡ false → members_have_float (put k d ms) ≡ false
-        → members_have_float (match_ordering o (member k d (member l e ms)) (member l d ms) (member l e (put k d ms))) ≡ false
-    go Less first rest later = or_from _ _ one (or_from _ _ first rest)
-    go Equal first rest later = or_from _ _ one rest
-    go Greater first rest later = or_from _ _ first later
-
-kind_whole : (none : Bool) (k : List ℕ) (n : ℕ) (ms : Members) → members_have_float ms ≡ false → members_have_float (cond none ms (put k (whole n) ms)) ≡ false
-kind_whole true k n ms others = others
-kind_whole false k n ms others = put_whole k (whole n) ms refl others
-
-kinds_whole : (kinds : List Note) (counts : List ℕ) → members_have_float (noted_kinds kinds counts) ≡ false
-kinds_whole [] counts = refl
-kinds_whole (kind ∷ kinds) counts =
-    kind_whole (note_count counts kind == 0) (note_row_of kind).name (note_count counts kind) (noted_kinds kinds counts) (kinds_whole kinds counts)
 
 accepted_whole : (o : OpenedValue) (c : CertificateValue) (records drawings : ℕ) (notes : List ℕ) → has_float (accepted_report o c records drawings notes) ≡ false
 accepted_whole o c records drawings notes =
@@ -63,13 +37,13 @@ accepted_whole o c records drawings notes =
     let m1 = put (codes "records") (whole records) m0 in
     let e1 : members_have_float m1 ≡ false = put_whole (codes "records") (whole records) m0 refl e0 in
     let m2 = put (codes "notes") (notes_data notes) m1 in
-    let e2 : members_have_float m2 ≡ false = put_whole (codes "notes") (notes_data notes) m1 (kinds_whole all_kinds notes) e1 in
+    let e2 : members_have_float m2 ≡ false = put_whole (codes "notes") (notes_data notes) m1 (notes_whole notes) e1 in
     let m3 = put (codes "needs") (needs_data c.needs) m2 in
     let e3 : members_have_float m3 ≡ false = put_whole (codes "needs") (needs_data c.needs) m2 refl e2 in
-    let m4 = put (codes "max") (dimensions c.max_width c.max_height) m3 in
-    let e4 : members_have_float m4 ≡ false = put_whole (codes "max") (dimensions c.max_width c.max_height) m3 refl e3 in
-    let m5 = put (codes "frame") (dimensions o.frame_width o.frame_height) m4 in
-    let e5 : members_have_float m5 ≡ false = put_whole (codes "frame") (dimensions o.frame_width o.frame_height) m4 refl e4 in
+    let m4 = put (codes "max") (pair c.max_width c.max_height) m3 in
+    let e4 : members_have_float m4 ≡ false = put_whole (codes "max") (pair c.max_width c.max_height) m3 refl e3 in
+    let m5 = put (codes "frame") (pair o.frame_width o.frame_height) m4 in
+    let e5 : members_have_float m5 ≡ false = put_whole (codes "frame") (pair o.frame_width o.frame_height) m4 refl e4 in
     let m6 = put (codes "format") (string (format_name o.format)) m5 in
     let e6 : members_have_float m6 ≡ false = put_whole (codes "format") (string (format_name o.format)) m5 refl e5 in
     let m7 = put (codes "drawings") (whole drawings) m6 in
@@ -81,10 +55,6 @@ accepted_whole o c records drawings notes =
 pub report_whole : (cleared : Cleared) → has_float (report_of cleared) ≡ false
 report_whole cleared =
     accepted_whole (opened_of cleared.opened) (certificate_of cleared.certificate) cleared.records (length (entries_of cleared.certificate.entries)) cleared.notes.counts
-
-if_whole : (n : Option ℕ) → has_float (whole_if n) ≡ false
-if_whole None = refl
-if_whole (Some n) = refl
 
 pub rejected_whole : (number : Option ℕ) (fault : Fault) → has_float (rejected_report number fault) ≡ false
 rejected_whole number fault =

@@ -1,15 +1,10 @@
 -- The report of a check, as JSON.
-use Rattle.std.specs.Prelude.{◌≡◌, ℕ, ◌==◌, if◌then◌else◌, List, [], ◌∷◌, ◌++◌, length, Option, Some, None, Ok, codes, true, false}
-use Rattle.serde_json.specs.Data.{Data, Members, array, boolean, item, member, no_items, no_members, null, number, object, put, string, unsigned}
-use Rattle.serde_json.specs.Written.{compact_text}
+use Rattle.std.specs.Prelude.{◌≡◌, ℕ, List, length, Option, Ok, codes, true, false}
+use Rattle.serde_json.specs.Data.{Data, boolean, member, no_members, object, put, string}
 use Rattle.draw_ops.specs.Content.{Content}
 use Rattle.draw_ops.specs.Fault.{record_kind_of}
 use Rattle.draw_ops.specs.FaultTable.{fault_row}
-use Rattle.draw_ops.specs.NoteCounts.{note_count}
-use Rattle.draw_ops.specs.NoteTable.{note_row_of}
 use Rattle.draw_ops.specs.declared.fault.Fault.{Fault}
-use Rattle.draw_ops.specs.declared.note.Note.{Note}
-use Rattle.draw_ops.specs.declared.note.Note.TheVariants.{AfterEnd, DashedPen, EmfPlus, Isotropic, PlaceableChecksum, PlaceableFields, SizeField, Skipped, WidePen}
 use Rattle.dc_stack.specs.State.{start_of}
 use Rattle.dc_stack.specs.declared.needs.Needs.{Needs}
 use Rattle.meta_headers.specs.File.{IsFile}
@@ -19,19 +14,7 @@ use Rattle.preflight_cert.specs.After.{file_notes}
 use Rattle.preflight_cert.specs.Answer.{IsAnswer, accepted, rejects}
 use Rattle.preflight_cert.specs.CertificateReading.{CertificateValue, read_certificate}
 use Rattle.preflight_cert.specs.Drawings.{drawings_of}
-
--- a number
-abbrev pub whole : ℕ → Data
-whole n = number (unsigned n)
-
--- a number, or null if there is none
-abbrev pub whole_if : Option ℕ → Data
-whole_if None = null
-whole_if (Some n) = whole n
-
--- a width and a height
-abbrev pub dimensions : ℕ → ℕ → Data
-dimensions width height = array (item (whole width) (item (whole height) no_items))
+use Rattle.report_parts.specs.Parts.{notes_data, pair, report_text, whole, whole_if}
 
 -- the needs, by name
 abbrev pub needs_data : Needs → Data
@@ -39,33 +22,14 @@ needs_data needs =
     object (member (codes "depth") (whole needs.depth) (member (codes "edges") (whole needs.edges)
     (member (codes "pieces") (whole needs.pieces) (member (codes "slots") (whole needs.slots) no_members))))
 
--- the members, with the count of a kind under its name if that kind occurred
-abbrev pub with_kind : Note → List ℕ → Members → Members
-with_kind kind counts others =
-    if note_count counts kind == 0 then others else put (note_row_of kind).name (whole (note_count counts kind)) others
-
--- the counts of the kinds that occurred, under their names
-abbrev pub noted_kinds : List Note → List ℕ → Members
-noted_kinds [] counts = no_members
-noted_kinds (kind ∷ kinds) counts = with_kind kind counts (noted_kinds kinds counts)
-
--- all kinds of notes
-abbrev pub all_kinds : List Note
-all_kinds =
-    PlaceableChecksum ∷ PlaceableFields ∷ SizeField ∷ AfterEnd ∷ DashedPen ∷ WidePen ∷ Isotropic ∷ EmfPlus ∷ Skipped ∷ []
-
--- the kinds of notes that occurred, each with its count
-abbrev pub notes_data : List ℕ → Data
-notes_data counts = object (noted_kinds all_kinds counts)
-
 -- the report for a certificate that is accepted for a file, with the file's number of records and drawings, by name
 abbrev pub accepted_report : OpenedValue → CertificateValue → ℕ → ℕ → List ℕ → Data
 accepted_report o c records drawings notes =
     object (put (codes "accepted") (boolean true)
     (put (codes "drawings") (whole drawings)
     (put (codes "format") (string (format_name o.format))
-    (put (codes "frame") (dimensions o.frame_width o.frame_height)
-    (put (codes "max") (dimensions c.max_width c.max_height)
+    (put (codes "frame") (pair o.frame_width o.frame_height)
+    (put (codes "max") (pair c.max_width c.max_height)
     (put (codes "needs") (needs_data c.needs)
     (put (codes "notes") (notes_data notes)
     (put (codes "records") (whole records)
@@ -80,10 +44,6 @@ rejected_report record_number fault =
     (put (codes "fault") (string (fault_row fault).name)
     (put (codes "number") (whole_if (record_kind_of fault))
     (put (codes "record") (whole_if record_number) no_members)))))
-
--- the text of a report: compact JSON and a line feed
-abbrev pub report_text : Data → List ℕ
-report_text report = compact_text report ++ codes "\n"
 
 -- the certificate is accepted for the file, and the text is the report of that
 pub record ReportsAccepted (file certificate text : List ℕ) : Type 0 where

@@ -1,7 +1,5 @@
 pub mod CheckReport
 pub mod ClearedFiles
-pub mod CommandLine
-pub mod Apps
 pub mod Ends
 pub mod Failures
 pub mod Faults
@@ -12,7 +10,5 @@ pub mod Outputs
 pub mod Reading
 pub mod Report
 pub mod Reported
-pub mod RightWords
-pub mod Dimensions
 pub mod Statuses
 pub mod Tasks

@@ -3,16 +3,16 @@ use Rattle.std.specs.Prelude.{◌≡◌, ℕ, List, Option, IfSome, codes, Strin
 use Rattle.std.specs.Io.KnownBytes.{Keeps}
 use Rattle.clap.specs.Words.{Text}
 use Rattle.std.specs.declared.alloc.Global.{Global}
-use Rattle.commands.specs.CommandLine.{HoldsOfAsked, texts_of}
+use Rattle.command_lines.specs.CommandLine.{HoldsOfAsked, texts_of}
 use Rattle.commands.specs.Ends.{PrintsBy, WritesBy}
 use Rattle.commands.specs.Report.{Reports, PrintsNothing, Printed}
-use Rattle.commands.specs.Dimensions.{HoldsOfSome, file_of}
+use Rattle.command_lines.specs.Dimensions.{HoldsOfSome, file_of}
 use Rattle.commands.specs.Tasks.{Task, check, list, over, play, prepare, show}
 use Rattle.commands.specs.declared.command_end.Completion.{Completion}
 use Rattle.commands.specs.declared.command_end.CommandEnd.{CommandEnd}
 use Rattle.commands.specs.declared.command_end.CommandEnd.TheVariants as end
-use Rattle.commands.specs.declared.asked.CommandLine.{CommandLine}
-use Rattle.commands.specs.declared.asked.CommandLine.TheVariants.{Check, List as ListLine, Over, Play, Prepare, Show}
+use Rattle.command_lines.specs.declared.asked.CommandLine.{CommandLine}
+use Rattle.command_lines.specs.declared.asked.CommandLine.TheVariants.{Check, List as ListLine, Over, Play, Prepare, Show}
 use Rattle.commands.specs.declared.inputs.Inputs.{Inputs}
 
 -- the word that stands for standard input
@@ -23,6 +23,11 @@ standard_input = codes "stdin"
 -- bytes
 abbrev pub IsInput : List ℕ → Option (List ℕ) → List ℕ → Type 0
 IsInput name input bytes = name ≡ standard_input → IfSome input (λ all. bytes ≡ all)
+
+-- a certificate is prepared of a named file
+abbrev pub PreparesNamedFile : CommandLine → Type 0
+PreparesNamedFile (Prepare name width height output) = name.now ≡ standard_input → ⊥
+PreparesNamedFile line = ⊥
 
 -- the task of a command line, if its file, certificate and image have these bytes
 abbrev pub task_of : CommandLine → List ℕ → List ℕ → List ℕ → Task
@@ -55,15 +60,15 @@ pub record LeavesErr (line : CommandLine) (input : Option (List ℕ)) (end : Com
   pub read : IsInput (file_of line) input file
   pub prints : PrintsBy end (task_of line file certificate image) printed old new
 
--- What a command line writes to standard output, by how it ends: nothing if an input can't be read or an allocation
--- failed.
+-- What a command line writes to standard output, by how it ends: nothing if an input can't be read, an allocation
+-- failed, or OUT is FILE, which is wrong usage.
 abbrev pub OutBy : CommandEnd → CommandLine → Option (List ℕ) → Option (List ℕ) → Option (List ℕ) → Type 0
 OutBy end.Done line input old new = LeavesOut line input end.Done old new
 OutBy end.Rejected line input old new = LeavesOut line input end.Rejected old new
 OutBy end.CannotWrite line input old new = LeavesOut line input end.CannotWrite old new
 OutBy end.CannotRead line input old new = Keeps old new
 OutBy end.OutOfMemory line input old new = Keeps old new
-OutBy end.WrongUsage line input old new = ⊥
+OutBy end.WrongUsage line input old new = PreparesNamedFile line × Keeps old new
 
 -- What a command line reports on standard error, by how it ends.
 abbrev pub ErrBy : CommandEnd → CommandLine → Option (List ℕ) → Printed → Option (List ℕ) → Option (List ℕ) → Type 0
@@ -72,7 +77,7 @@ ErrBy end.Rejected line input printed old new = LeavesErr line input end.Rejecte
 ErrBy end.CannotWrite line input printed old new = Reports printed old new (codes "cannot write")
 ErrBy end.CannotRead line input printed old new = Reports printed old new (codes "cannot read")
 ErrBy end.OutOfMemory line input printed old new = Reports printed old new (codes "OutOfMemory")
-ErrBy end.WrongUsage line input printed old new = ⊥
+ErrBy end.WrongUsage line input printed old new = PreparesNamedFile line × Reports printed old new (codes "OUT is FILE")
 
 -- What the program writes to standard output for its words: anything if they are wrong usage, otherwise what a command
 -- line that they give writes.
@@ -127,6 +132,11 @@ module _ {W : Type 0} where
 
   abbrev pub PrintsSome : Option (List ℕ) → Completion → (W → Option (List ℕ)) → W → W → Type 0
   PrintsSome input answer contents old new = ErrOfSome answer.end input answer.printed (contents old) (contents new)
+
+  -- the words prepare a certificate of a named file, and it is reported that OUT is that file
+  abbrev pub ReportsSameFile : List (String Global) → Completion → (W → Option (List ℕ)) → W → W → Type 0
+  ReportsSameFile words answer contents old new =
+      HoldsOfAsked (texts_of words) PreparesNamedFile × Reports answer.printed (contents old) (contents new) (codes "OUT is FILE")
 
   -- it is reported that an allocation failed
   abbrev pub PrintsMemory : Completion → (W → Option (List ℕ)) → W → W → Type 0

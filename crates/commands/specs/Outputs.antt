@@ -1,11 +1,11 @@
 -- When an output failed, and when it was flushed.
 use Rattle.std.specs.Prelude.{◌≡◌, ◌≢◌, ◌<◌, ℕ, Bool, List, OnErr, String, true}
 use Rattle.std.specs.declared.alloc.Global.{Global}
-use Rattle.commands.specs.CommandLine.{HoldsOfAsked, texts_of}
+use Rattle.command_lines.specs.CommandLine.{HoldsOfAsked, texts_of}
 use Rattle.commands.specs.declared.command_end.Completion.{Completion}
 use Rattle.commands.specs.declared.command_end.CommandEnd.TheVariants as end
-use Rattle.commands.specs.declared.asked.CommandLine.{CommandLine}
-use Rattle.commands.specs.declared.asked.CommandLine.TheVariants.{Prepare}
+use Rattle.command_lines.specs.declared.asked.CommandLine.{CommandLine}
+use Rattle.command_lines.specs.declared.asked.CommandLine.TheVariants.{Prepare}
 
 module _ {W : Type 0} where
   -- a writer failed: its count of faults rose

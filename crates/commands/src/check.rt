@@ -15,6 +15,7 @@ use std::alloc::{AllocError, Global};
 
 /// Checks a certificate against a file, and writes a report to `out` as one line of JSON, whether the pair is accepted
 /// or rejected. A rejection writes nothing to `err`, and a fault of `err` doesn't change the status.
+#[inline(never)]
 pub fn check_command<O: FaultCount, E: FaultCount>(
     alloc: Global,
     file: &[u8],

@@ -14,8 +14,9 @@ use thiserror::Error;
 /// The longest input, in bytes.
 const INPUT_LIMIT: usize = 268435456;
 
-/// The number of bytes to ask for in one read.
-const PIECE: usize = 65536;
+/// The number of bytes to ask for in one read. Their array is on the stack, and is larger than all that a command puts
+/// there later, when memory may be full and the stack can't grow.
+const PIECE: usize = 262144;
 
 /// Why an input wasn't read.
 #[derive(Clone, Copy, Debug, PartialEq, Eq, Error)]
@@ -53,7 +54,9 @@ impl InputFault {
 }
 
 /// Reads all bytes of a reader. Any error of a read is `CannotRead`, whatever its kind, and so is an input of more than
-/// 268,435,456 bytes. After an error, a prefix of the reader's bytes has been consumed.
+/// 268,435,456 bytes. After an error, a prefix of the reader's bytes has been consumed. This isn't inlined, because
+/// otherwise each input of a command would have an array of its own on the stack.
+#[inline(never)]
 #[tactic(auto, unfolding(crate::specs::Reading::input_limit))]
 pub fn read_input<R: Read>(alloc: Global, input: &mut R) -> Result<Vec<u8>, InputFault>
     ensures bytes { IfOk result (λ bytes. IfSome (R.remaining input.old) (λ all. bytes.items ≡ all)) }

@@ -4,17 +4,17 @@ ghost use Rattle.std.specs.Prelude.{◌≡◌, ◌≢◌, ◌≤◌, IfOk, vec_l
 ghost use Rattle.std.specs.Io.KnownBytes.{Keeps};
 ghost use Rattle.commands.specs.Lines.{IsInput, standard_input};
 ghost use Rattle.commands.specs.Reading.{input_limit};
-ghost use Rattle.commands.specs.Dimensions.{file_of};
+ghost use Rattle.command_lines.specs.Dimensions.{file_of};
 
-use crate::asked::CommandLine;
 use crate::input::{InputFault, read_input};
+use command_lines::CommandLine;
 use std::alloc::Global;
 use std::fs;
 use std::io::Read;
 use std::rt::Files;
 
 /// The word that stands for standard input.
-const STANDARD_INPUT: &str = "stdin";
+pub(crate) const STANDARD_INPUT: &str = "stdin";
 
 /// The bytes of a command's inputs.
 #[derive(Drop)]

@@ -1,10 +1,9 @@
-//! The commands of `metaplay`: parsing the command line, reading its inputs, and running the command.
+//! The commands of `metaplay`: reading the inputs of a command line, and running its command.
 //!
 //! # What is promised
 //!
-//! - A parsed command line has surfaces from 1 to 8,192 pixels in width and height, and the files and sizes that its
-//!   words give, as `clap` reads them. The right words for a command are never wrong usage. These are its name, then
-//!   its file names and sizes in order, for `play` with or without bands (`line`, `run_words`).
+//! - The right words for a command are never wrong usage, unless they prepare a certificate into the metafile itself
+//!   (`run_words`).
 //! - An input is read in full, or reading it fails (`read_input`).
 //! - One definition for all commands says what a command writes to its output and to standard error, by how it ends
 //!   (`show_command`, `prepare_command`, `check_command`, `play_command`, `over_command`, `list_command`, by `Writes`
@@ -34,12 +33,9 @@
 //!   there was a line to write and the writer failed: no line of the program is too long (`report_refusal`).
 #![tactic(auto)]
 
-mod asked;
 mod check;
 mod check_report;
 mod command_end;
-mod command_line;
-mod declared;
 mod failure;
 mod image_output;
 mod input;
@@ -53,13 +49,12 @@ mod prepare;
 mod preparing;
 mod program;
 mod reporting;
+mod same_file;
 mod show;
 mod shown;
 
-pub use asked::CommandLine;
 pub use check::check_command;
 pub use command_end::{CommandEnd, Completion};
-pub use command_line::line;
 pub use input::{InputFault, read_input};
 pub use inputs::read_file;
 pub use list::list_command;

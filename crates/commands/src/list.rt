@@ -17,6 +17,7 @@ use std::alloc::Global;
 /// Lists the records of a file to `out`, one line per record, with the faults that runs of the file have there on
 /// surfaces of any size. How the command ends says whether the records end with an end record. A listing writes nothing
 /// to `err`, and a fault of `err` doesn't change the status.
+#[inline(never)]
 pub fn list_command<O: FaultCount, E: FaultCount>(
     alloc: Global,
     file: &[u8],

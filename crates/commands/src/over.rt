@@ -24,6 +24,7 @@ use std::alloc::Global;
 /// `out` as P6 text after the whole file has been played. If the check rejects the pair, or else the image is invalid
 /// (`BadImage`), or else the surface is too large (`SurfaceTooLarge`), one line goes to `err`. A fault of `err` doesn't
 /// change the status.
+#[inline(never)]
 pub fn over_command<O: FaultCount, E: FaultCount>(
     alloc: Global,
     file: &[u8],

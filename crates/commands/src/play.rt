@@ -18,6 +18,7 @@ use std::alloc::Global;
 /// number that the program chooses, and writes the image to `out` as P6 text. If the check rejects the pair, or else
 /// the surface is too large (`SurfaceTooLarge`), one line goes to `err` and no byte to `out`. A fault of `err` doesn't
 /// change the status.
+#[inline(never)]
 pub fn play_command<O: FaultCount, E: FaultCount>(
     alloc: Global,
     file: &[u8],

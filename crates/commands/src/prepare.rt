@@ -9,9 +9,12 @@ ghost use Rattle.commands.specs.Tasks.{prepare};
 
 use crate::command_end::{CommandEnd, Completion};
 use crate::failure::{Failure, ending, failure_of};
+use crate::output::NamedOutput;
 use crate::preparing::prepare_file;
-use canvas::{FaultCount, send_finished};
+use crate::reporting::report;
+use canvas::{Counting, FaultCount, send_finished};
 use std::alloc::Global;
+use std::rt::Files;
 
 /// Prepares a file's certificate for surfaces of at most this size, and writes it to `out` after the whole file has
 /// been examined. If the file is rejected, one line goes to `err`. A fault of `err` doesn't change the status.
@@ -63,4 +66,32 @@ fn write_prepared<O: FaultCount>(
         Ok(()) => Ok(()),
         Err(_) => Err(Failure::CannotWrite),
     }
+}
+
+/// Prepares a file's certificate, and writes it to the file of this name.
+#[inline(never)]
+pub(crate) fn prepare_to_file<R: Files + AllocGlobal, E: FaultCount>(
+    rt: &R,
+    file: &[u8],
+    width: u32,
+    height: u32,
+    name: &str,
+    err: &mut E,
+) -> Completion
+    requires wide { IsSurfaceSide width }
+    requires high { IsSurfaceSide height }
+    requires capacity { E.fault_count err.old < 2 ^ 64 - 1 }
+    ensures printed { Prints (prepare file.now width height) result E.contents err.old err.new }
+    ensures unreported { OnErr result.printed (E.fault_count err.old < E.fault_count err.new) }
+{
+    let Ok(output) = NamedOutput::new(rt, name) else {
+        return Completion {
+            end: CommandEnd::OutOfMemory,
+            printed: report(err, "OutOfMemory"),
+        };
+    };
+    let mut output = Counting::new(output);
+    let answer = prepare_command(rt.alloc(), file, width, height, &mut output, err);
+    output.into_writer().remove_unfinished();
+    answer
 }

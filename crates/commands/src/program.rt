@@ -4,29 +4,29 @@ ghost use Rattle.std.specs.Prelude.{◌≡◌, ◌≢◌, ◌⊎◌, ◌↔◌, 
 ghost use Rattle.std.specs.Io.KnownBytes.{Keeps};
 ghost use Rattle.clap.specs.Words.{kind_of};
 ghost use Rattle.commands.specs.Outputs.{FailsAsked, FlushesAsked, IsUnreported, OutputFailed, OutputFlushed, Rises};
-ghost use Rattle.commands.specs.RightWords.{AreRightWords};
+ghost use Rattle.command_lines.specs.RightWords.{AreRightWords};
 ghost use Rattle.commands.specs.Faults.{input_end, fault_text};
 ghost use Rattle.commands.specs.Lines.{TaskPrints, TaskWrites, PrintsAsked, PrintsLine, PrintsMemory, PrintsSome};
+ghost use Rattle.commands.specs.Lines.{ReportsSameFile};
 ghost use Rattle.commands.specs.Lines.{WritesAsked, WritesLine, WritesSome, standard_input};
 ghost use Rattle.commands.specs.Report.{Reports};
-ghost use Rattle.commands.specs.Dimensions.{HasDimensions, HoldsOfSome, file_of};
+ghost use Rattle.command_lines.specs.Dimensions.{HasDimensions, HoldsOfSome, file_of};
 
-use crate::asked::CommandLine;
 use crate::check::check_command;
 use crate::command_end::{CommandEnd, Completion};
-use crate::command_line::line;
 use crate::input::InputFault;
 use crate::inputs::{Inputs, read_inputs};
 use crate::list::list_command;
-use crate::output::NamedOutput;
 use crate::over::over_command;
 use crate::play::play_command;
-use crate::prepare::prepare_command;
+use crate::prepare::prepare_to_file;
 use crate::reporting::report;
+use crate::same_file::replaces_its_file;
 use crate::show::show_command;
 use crate::shown::show_error;
-use canvas::{Counting, FaultCount};
+use canvas::FaultCount;
 use clap::error::ErrorKind;
+use command_lines::{CommandLine, line};
 use std::alloc::Global;
 use std::env;
 use std::io::Read;
@@ -79,7 +79,8 @@ where
     requires capacity_err { E.fault_count err.old < 2 ^ 64 - 1 }
     ensures written { WritesAsked words.entry.now (I.remaining input.old) result O.contents out.old out.new }
     ensures printed { PrintsAsked words.entry.now (I.remaining input.old) result E.contents err.old err.new }
-    ensures usage_wrong { result.end ≡ CommandEnd.WrongUsage → AreRightWords (map string_bytes words.entry.now) → ⊥ }
+    ensures usage_wrong { result.end ≡ CommandEnd.WrongUsage → AreRightWords (map string_bytes words.entry.now) → ReportsSameFile words.entry.now result E.contents err.old err.new }
+    ensures usage_unwritten { result.end ≡ CommandEnd.WrongUsage → AreRightWords (map string_bytes words.entry.now) → Keeps (O.contents out.old) (O.contents out.new) }
     ensures usage_unread { result.end ≡ CommandEnd.WrongUsage → Keeps (I.remaining input.old) (I.remaining input.new) }
     ensures cannot_write { result.end ≡ CommandEnd.CannotWrite → FailsAsked words.entry.now O.fault_count out.old out.new }
     ensures flushed { result.end ≡ CommandEnd.Done → FlushesAsked words.entry.now O.is_flushed out.old out.new }
@@ -115,13 +116,30 @@ where
     ensures flushed { result.end ≡ CommandEnd.Done → OutputFlushed O.is_flushed out.old out.new line.entry }
     ensures unreported { OnErr result.printed (E.fault_count err.old < E.fault_count err.new) }
 {
+    if replaces_its_file(rt, line) {
+        return same_file(err);
+    }
     match read_inputs(rt, line, input) {
         Ok(inputs) => run_task(rt, line, &inputs, out, err),
         Err(fault) => no_input(fault, err),
     }
 }
 
-/// Runs the command of a command line with the bytes of its inputs.
+/// Reports that OUT is FILE.
+fn same_file<E: FaultCount>(err: &mut E) -> Completion
+    requires capacity { E.fault_count err.old < 2 ^ 64 - 1 }
+    ensures end { result.end ≡ CommandEnd.WrongUsage }
+    ensures line { Reports result.printed (E.contents err.old) (E.contents err.new) (codes "OUT is FILE") }
+    ensures unreported { OnErr result.printed (E.fault_count err.old < E.fault_count err.new) }
+{
+    Completion {
+        end: CommandEnd::WrongUsage,
+        printed: report(err, "OUT is FILE"),
+    }
+}
+
+/// Runs the command of a command line with the bytes of its inputs. No command is inlined here, so that each takes only
+/// its own stack, which must not grow when memory is full.
 fn run_task<R: Files + AllocGlobal, O: FaultCount, E: FaultCount>(
     rt: &R,
     line: CommandLine<'_>,
@@ -148,10 +166,7 @@ fn run_task<R: Files + AllocGlobal, O: FaultCount, E: FaultCount>(
             height,
             output,
             ..
-        } => {
-            let mut output = Counting::new(NamedOutput::new(rt, output));
-            prepare_command(rt.alloc(), file, width, height, &mut output, err)
-        }
+        } => { prepare_to_file(rt, file, width, height, output, err) }
         CommandLine::Check { .. } => check_command(rt.alloc(), file, certificate, out, err),
         CommandLine::Play {
             width,

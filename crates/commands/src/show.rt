@@ -16,6 +16,7 @@ use std::alloc::Global;
 
 /// Prepares a file at the size of a surface, plays it on white, and writes the image to `out` as P6 text. If the file
 /// is rejected, one line goes to `err` and no byte to `out`. A fault of `err` doesn't change the status.
+#[inline(never)]
 pub fn show_command<O: FaultCount, E: FaultCount>(
     alloc: Global,
     file: &[u8],

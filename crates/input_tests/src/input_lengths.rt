@@ -1,7 +1,7 @@
 //! Inputs of each length beside the pieces that are read, and readers that give each number of bytes at once.
 
-use crate::command_lines::words;
 use crate::output_pieces::IMAGE;
+use crate::parsed_lines::words;
 use canvas::Counting;
 use commands::{read_input, run_words};
 use std::alloc::{AllocError, Global};

@@ -5,13 +5,13 @@
 #![tactic(auto)]
 
 #[cfg(test)]
-mod command_lines;
-#[cfg(test)]
 mod input_lengths;
 #[cfg(test)]
 mod inputs;
 #[cfg(test)]
 mod output_pieces;
+#[cfg(test)]
+mod parsed_lines;
 #[cfg(test)]
 mod reports;
 #[cfg(test)]

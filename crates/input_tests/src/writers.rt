@@ -1,9 +1,10 @@
 //! Writers that fail, accept nothing, stop short or are interrupted.
 
-use crate::command_lines::words;
+use crate::parsed_lines::words;
 use crate::same_values::same;
 use canvas::Counting;
-use commands::{line, show_command, usage};
+use command_lines::line;
+use commands::{show_command, usage};
 use std::alloc::Global;
 use std::io;
 use std::io::Write;

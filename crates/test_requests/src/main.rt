@@ -1,6 +1,6 @@
 //! A program for tests (tests/request_program.py). It answers requests from standard input, one after another: prepare
 //! a file's certificate, check a certificate, play a file by its certificate over an image, count the writes of playing
-//! it on white, or run a command.
+//! it on white, run a command, or inform about a file, whose name stands in place of the certificate.
 //!
 //! A request is five little-endian numbers of four bytes, followed by the bytes that they count. The numbers are its
 //! kind, a width, a height, and the lengths of the file and the certificate. An image has three bytes per pixel.
@@ -11,6 +11,9 @@
 
 ghost use Rattle.std.specs.Prelude.{◌-◌, ◌^◌, ◌<◌};
 
+mod informing;
+
+use crate::informing::answer_info;
 use canvas::{Canvas, Counting, FaultCount};
 use commands::{
     CommandEnd, Completion, check_command, list_command, over_command, play_command,
@@ -248,6 +251,9 @@ fn answer_command<W: Write>(alloc: Global, request: &Request<'_>, to: &mut W) ->
 
 /// Answers a request with a line and the bytes that were made.
 fn answer<W: Write>(alloc: Global, request: &Request<'_>, out: &mut W) -> io::Result<()> {
+    if request.kind == 10 {
+        return answer_info(alloc, request.certificate, request.file, out);
+    }
     if request.kind >= 4 {
         return answer_command(alloc, request, out);
     }

@@ -2,5 +2,5 @@
 use Rattle.commands.proofs.ReportLemmas.{report_whole}
 use Rattle.commands.proofs.check_report.accepted_report.Goals as goal
 
-pub text_of-requires : goal.text_of-requires
-text_of-requires c = rw c.in_ok-report.ensures (report_whole c.args.cleared.now)
+pub report_text_of-requires : goal.report_text_of-requires
+report_text_of-requires c = rw c.in_ok-report.ensures (report_whole c.args.cleared.now)

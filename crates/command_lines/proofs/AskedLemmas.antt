@@ -1,0 +1,72 @@
+-- The rows of the parsed command are the arguments that it was given.
+use Rattle.std.proofs.Common.{◌≡◌, ◌∙◌, ap, sym, subst, refl, Bool, List, [], ◌∷◌, false, true, Option, Some, None, IfSome, find, option_map, Box}
+use Rattle.std.proofs.lemmas.Slice.Eq.{bytes_eq-Decides}
+use Rattle.std.specs.Box.{box_value}
+use Rattle.std.specs.Str.{bytes_eq}
+use Rattle.clap.specs.Words.{Row, Shape, Text}
+use Rattle.clap.specs.Simple.{subcommand_rows}
+use Rattle.clap.specs.declared.parser.matches.SubCommand.{SubCommand}
+use Rattle.clap.specs.declared.parser.matches.ArgMatches.TheViews.{out-SubCommand}
+use Rattle.command_lines.specs.CommandLine.{GivesAll, HoldsWords, IsAskedBy, IsRightCommand, command_name, metaplay_app}
+use Rattle.command_lines.specs.declared.asked.CommandLine.{CommandLine}
+
+same_inside : {A : Type 0} {x y : A} → Some x ≡ Some y → x ≡ y
+same_inside e = cc
+
+-- no command of the list was found
+abbrev pub AreNotMet : Option Text → List Shape → Type 0
+AreNotMet met [] = Unit {0}
+AreNotMet met (s ∷ others) = (met ≡ Some s.name → false ≡ true) × AreNotMet met others
+
+not_found : (shapes : List Shape) (name : Text) (shape : Shape) → AreNotMet (Some name) shapes → find (λ s. bytes_eq s.name name) shapes ≡ Some shape → ⊥
+not_found [] name shape others found = cc
+not_found (s ∷ shapes) name shape others found = go (bytes_eq s.name name) refl (not_found shapes name shape others.1)
+  where
+    go : (same : Bool) → bytes_eq s.name name ≡ same → (find (λ t. bytes_eq t.name name) shapes ≡ Some shape → ⊥) → ⊥
+    go true is after =
+        let bad : false ≡ true = others.0 (ap Some (sym ((bytes_eq-Decides s.name name).0 is))) in
+        cc
+    go false is after = after (rw is at found)
+
+module _ {Z : Type 0} where
+  -- the name of the parsed command
+  abbrev name_met : Option (Box SubCommand Z) → Option Text
+  name_met met = option_map (λ b. (out-SubCommand (box_value b)).name.now) met
+
+  -- the arguments of the parsed command
+  abbrev rows_met : Option (Box SubCommand Z) → Option (List Row)
+  rows_met met = option_map (λ p. p.1) (subcommand_rows met)
+
+  both_met : (met : Option (Box SubCommand Z)) (name : Text) (given : List Row) → name_met met ≡ Some name → rows_met met ≡ Some given → subcommand_rows met ≡ Some (name, given)
+  both_met None name given named rows = cc
+  both_met (Some b) name given named rows = cc
+
+  -- the command line has this name and these rows
+  pub asked_by : (met : Option (Box SubCommand Z)) (name : Text) (given : List Row) (r : Option CommandLine) → name_met met ≡ Some name → rows_met met ≡ Some given
+      → IfSome r (λ line. command_name line ≡ name) → IfSome r (HoldsWords given) → IfSome r (IsAskedBy (subcommand_rows met))
+  asked_by met name given None named rows same gives = tt
+  asked_by met name given (Some line) named rows same gives = record {
+    given = given;
+    command = both_met met name given named rows ∙ ap (λ (n : Text). Some (n, given)) (sym same);
+    gives = gives;
+  }
+
+  -- the command of this name was given proper arguments
+  pub right_rows : (met : Option (Box SubCommand Z)) (name : Text) (shape : Shape) (rows : List Row) → IsRightCommand (subcommand_rows met) → name_met met ≡ Some name
+      → rows_met met ≡ Some rows → find (λ s. bytes_eq s.name name) metaplay_app.subs ≡ Some shape → GivesAll shape.rules rows
+  right_rows met name shape rows right named has declared =
+      let both : (name, rows) ≡ (right.name, right.given) = same_inside (sym (both_met met name rows named has) ∙ right.command) in
+      let found : find (λ s. bytes_eq s.name right.name) metaplay_app.subs ≡ Some shape =
+      subst (λ (n : Text). find (λ (s : Shape). bytes_eq s.name n) metaplay_app.subs ≡ Some shape) (ap (λ (p : Text × List Row). p.0) both) declared in
+      let one : right.shape ≡ shape = same_inside (sym right.declared ∙ found) in
+      subst (λ (given : List Row). GivesAll shape.rules given) (sym (ap (λ (p : Text × List Row). p.1) both)) (subst (λ (s : Shape). GivesAll s.rules right.given) one right.allowed)
+
+  -- the parsed command has the right name
+  name_right : (met : Option (Box SubCommand Z)) (right : IsRightCommand (subcommand_rows met)) → name_met met ≡ Some right.name
+  name_right None right = ap (option_map (λ (command : Text × List Row). command.0)) right.command
+  name_right (Some b) right = ap (option_map (λ (command : Text × List Row). command.0)) right.command
+
+  -- if no command was found, no command line was right
+  pub none_right : (met : Option (Box SubCommand Z)) → IsRightCommand (subcommand_rows met) → AreNotMet (name_met met) metaplay_app.subs → ⊥
+  none_right met right others =
+      not_found metaplay_app.subs right.name right.shape (subst (λ (m : Option Text). AreNotMet m metaplay_app.subs) (name_right met right) others) right.declared

@@ -1,0 +1,6 @@
+pub mod AppLemmas
+pub mod AskedLemmas
+pub mod KindLemmas
+pub mod SideLemmas
+pub mod TakenLemmas
+pub mod WordLemmas

@@ -1,0 +1,198 @@
+-- The program's command line, as clap reads it.
+use Rattle.std.specs.Prelude.{◌≡◌, ◌≤◌, ℕ, Bool, List, [], ◌∷◌, Option, Some, None, IsSome, String, codes, false, find, map, pos, string_bytes, true}
+use Rattle.std.specs.Str.{bytes_eq}
+use Rattle.mapping.specs.Limits.{surface_side_limit}
+use Rattle.std.specs.Str.Parse.{IsNumeral, digits_value, without_leading_plus}
+use Rattle.std.specs.declared.alloc.Global.{Global}
+use Rattle.clap.specs.Words.{App, Row, Rule, Shape, Text, first_of, new_app, new_rule, one_of, subcommand_of, with_rule, with_subcommand}
+use Rattle.clap.specs.declared.builder.ArgAction.TheVariants.{Set}
+use Rattle.clap.specs.declared.builder.value_parser.ValueParser.{ValueParser}
+use Rattle.clap.specs.declared.builder.value_parser.ValueParser.TheVariants.{Signed}
+use Rattle.command_lines.specs.Dimensions.{HasDimensions}
+use Rattle.command_lines.specs.declared.asked.CommandLine.{CommandLine}
+use Rattle.command_lines.specs.declared.asked.CommandLine.TheVariants.{Check, List as ListLine, Over, Play, Prepare, Show}
+
+-- a file's name, which is required
+abbrev pub name_rule : Text → Rule
+name_rule id = record (new_rule id) { required = true; action = Some Set }
+
+-- W or H, which is required, from 1 to 8,192
+abbrev pub side_rule : Text → Rule
+side_rule id = record (new_rule id) { required = true; action = Some Set; parser = Some (Signed (pos 1) (pos surface_side_limit)) }
+
+-- W and H
+abbrev pub side_rules : List Rule
+side_rules = side_rule (codes "W") ∷ side_rule (codes "H") ∷ []
+
+-- a command with FILE
+abbrev pub file_app : Text → App
+file_app name = with_rule (new_app name) (name_rule (codes "FILE"))
+
+-- a command followed by W and H
+abbrev pub with_dimensions : App → App
+with_dimensions app = with_rule (with_rule app (side_rule (codes "W"))) (side_rule (codes "H"))
+
+-- show FILE W H
+abbrev pub show_app : App
+show_app = with_dimensions (file_app (codes "show"))
+
+-- prepare FILE W H OUT
+abbrev pub prepare_app : App
+prepare_app = with_rule (with_dimensions (file_app (codes "prepare"))) (name_rule (codes "OUT"))
+
+-- check FILE CERT
+abbrev pub check_app : App
+check_app = with_rule (file_app (codes "check")) (name_rule (codes "CERT"))
+
+-- --bands ROWS, which is optional, from 1 to 8,192
+abbrev pub bands_rule : Rule
+bands_rule = record (new_rule (codes "ROWS")) { long = Some (codes "bands"); action = Some Set; parser = Some (Signed (pos 1) (pos surface_side_limit)) }
+
+-- play FILE CERT W H [--bands ROWS]
+abbrev pub play_app : App
+play_app = with_rule (with_dimensions (with_rule (file_app (codes "play")) (name_rule (codes "CERT")))) bands_rule
+
+-- over FILE CERT IMAGE
+abbrev pub over_app : App
+over_app = with_rule (with_rule (file_app (codes "over")) (name_rule (codes "CERT"))) (name_rule (codes "IMAGE"))
+
+-- list FILE
+abbrev pub list_app : App
+list_app = file_app (codes "list")
+
+-- metaplay without its commands; a command is required
+abbrev pub bare_app : App
+bare_app = record (new_app (codes "metaplay")) { top = record (new_app (codes "metaplay")).top { subcommand_required = true } }
+
+-- metaplay with its commands
+abbrev pub metaplay_app : App
+metaplay_app =
+    with_subcommand
+    (with_subcommand (with_subcommand (with_subcommand (with_subcommand (with_subcommand bare_app show_app.top) prepare_app.top) check_app.top) play_app.top)
+    over_app.top)
+    list_app.top
+
+-- the number of a text: its decimal digits, after an optional plus sign
+abbrev pub number_of : Text → ℕ
+number_of text = digits_value 10 (without_leading_plus text)
+
+-- the argument with this id was given, and it reads as this number
+pub record GivesNumber (given : List Row) (id : Text) (number : ℕ) : Type 0 where
+  pub text : Text
+  pub is_given : one_of id given ≡ Some text
+  pub reads : number ≡ number_of text
+
+-- the arguments W and H were given, and they read as these numbers
+pub record GivesDimensions (given : List Row) (width height : ℕ) : Type 0 where
+  pub wide : GivesNumber given (codes "W") width
+  pub high : GivesNumber given (codes "H") height
+
+-- the argument ROWS was given and reads as this number, or it wasn't given
+abbrev pub GivesBands : List Row → Option ℕ → Type 0
+GivesBands given None = IsSome (first_of (codes "ROWS") given) → ⊥
+GivesBands given (Some rows) = GivesNumber given (codes "ROWS") rows
+
+-- the argument with this id was given, as this text
+abbrev pub GivesName : List Row → Text → Text → Type 0
+GivesName given id name = first_of id given ≡ Some name
+
+-- the name of a command line's command
+abbrev pub command_name : CommandLine → Text
+command_name (Show file width height) = codes "show"
+command_name (Prepare file width height output) = codes "prepare"
+command_name (Check file certificate) = codes "check"
+command_name (Play file certificate width height bands) = codes "play"
+command_name (Over file certificate image) = codes "over"
+command_name (ListLine file) = codes "list"
+
+-- a command line has the names and numbers of the given arguments
+abbrev pub HoldsWords : List Row → CommandLine → Type 0
+HoldsWords given (Show file width height) = GivesName given (codes "FILE") file.now × GivesDimensions given width height
+HoldsWords given (Prepare file width height output) =
+    GivesName given (codes "FILE") file.now × GivesDimensions given width height × GivesName given (codes "OUT") output.now
+HoldsWords given (Check file certificate) = GivesName given (codes "FILE") file.now × GivesName given (codes "CERT") certificate.now
+HoldsWords given (Play file certificate width height bands) =
+    GivesName given (codes "FILE") file.now × GivesName given (codes "CERT") certificate.now × GivesDimensions given width height × GivesBands given bands
+HoldsWords given (Over file certificate image) =
+    GivesName given (codes "FILE") file.now × GivesName given (codes "CERT") certificate.now × GivesName given (codes "IMAGE") image.now
+HoldsWords given (ListLine file) = GivesName given (codes "FILE") file.now
+
+-- the parsed command is that of the command line, and has its arguments
+pub record IsAskedBy (met : Option (Text × List Row)) (line : CommandLine) : Type 0 where
+  pub given : List Row
+  pub command : met ≡ Some (command_name line, given)
+  pub gives : HoldsWords given line
+
+-- the words of a command line, as bytes
+abbrev pub texts_of : List (String Global) → List Text
+texts_of words = map string_bytes words
+
+-- the command line has what the words, the program's name first, give its command
+abbrev pub IsAskedByWords : List Text → CommandLine → Type 0
+IsAskedByWords words line = IsAskedBy (subcommand_of metaplay_app words) line
+
+-- the word doesn't begin with a hyphen
+abbrev pub IsPlainWord : Text → Type 0
+IsPlainWord [] = Unit {0}
+IsPlainWord (byte ∷ rest) = byte ≡ 45 → ⊥
+
+-- the file has this name, and the width and height are the numbers of these texts
+pub record AreOfWords (file wide high : Text) (name : Text) (width height : ℕ) : Type 0 where
+  pub named : name ≡ file
+  pub wide_reads : width ≡ number_of wide
+  pub high_reads : height ≡ number_of high
+
+-- the command line is `show` with this file name and the numbers of these texts
+abbrev pub HasWords : Text → Text → Text → CommandLine → Type 0
+HasWords file wide high (Show name width height) = AreOfWords file wide high name.now width height
+HasWords file wide high line = ⊥
+
+-- if the words are the program's name, `show` and three words that don't begin with a hyphen, the command line has
+-- these three
+abbrev pub HasPlainWords : List Text → CommandLine → Type 0
+HasPlainWords words line =
+    (program file wide high : Text) → IsPlainWord file → IsPlainWord wide → IsPlainWord high
+    → words ≡ program ∷ codes "show" ∷ file ∷ wide ∷ high ∷ [] → HasWords file wide high line
+
+-- the text is a decimal numeral from 1 to 8,192, without a sign
+pub record IsSideText (text : Text) : Type 0 where
+  pub numeral : IsNumeral 10 text
+  pub least : 1 ≤ digits_value 10 text
+  pub most : digits_value 10 text ≤ surface_side_limit
+
+-- the argument with this id was given, as such a numeral
+pub record GivesSide (given : List Row) (id : Text) : Type 0 where
+  pub text : Text
+  pub is_given : one_of id given ≡ Some text
+  pub is_side : IsSideText text
+
+-- an argument was given as it should be: a text, or a numeral in range if a number is read from it; an optional
+-- argument may be missing
+abbrev pub GivesRight : Bool → Option ValueParser → List Row → Text → Type 0
+GivesRight true None given id = IsSome (first_of id given)
+GivesRight true (Some parser) given id = GivesSide given id
+GivesRight false parser given id = IsSome (first_of id given) → GivesSide given id
+
+abbrev pub GivesArgument : Rule → List Row → Type 0
+GivesArgument rule given = GivesRight rule.required rule.parser given rule.id
+
+-- all arguments were given as they should be
+abbrev pub GivesAll : List Rule → List Row → Type 0
+GivesAll [] given = Unit {0}
+GivesAll (rule ∷ rules) given = GivesArgument rule given × GivesAll rules given
+
+-- the parsed command is one of metaplay's, and its arguments were given as they should be
+pub record IsRightCommand (met : Option (Text × List Row)) : Type 0 where
+  pub name : Text
+  pub given : List Row
+  pub shape : Shape
+  pub command : met ≡ Some (name, given)
+  pub declared : find (λ s. bytes_eq s.name name) metaplay_app.subs ≡ Some shape
+  pub allowed : GivesAll shape.rules given
+
+-- a statement holds for a command line that the words give, with valid sizes
+pub record HoldsOfAsked (words : List Text) (holds : CommandLine → Type 0) : Type 0 where
+  pub line : CommandLine
+  pub dimensions : HasDimensions line
+  pub asked : IsAskedByWords words line
+  pub fact : holds line

@@ -1,0 +1,4 @@
+pub mod Apps
+pub mod CommandLine
+pub mod Dimensions
+pub mod RightWords

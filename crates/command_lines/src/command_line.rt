@@ -1,0 +1,235 @@
+//! Parses the command line.
+
+ghost use Rattle.std.specs.Prelude.{◌≡◌, IfErr, IfOk, IfSome, IsSome, codes};
+ghost use Rattle.clap.specs.Words.{first_of, found_of, kind_of, rows_of, subcommand_rows_of};
+ghost use Rattle.mapping.specs.Limits.{IsSurfaceSide};
+ghost use Rattle.command_lines.specs.CommandLine.{GivesAll, GivesArgument, GivesBands, GivesName, GivesNumber, GivesSide, GivesDimensions};
+ghost use Rattle.command_lines.specs.CommandLine.{HasPlainWords, HoldsWords, IsAskedBy, IsAskedByWords, IsRightCommand, command_name, texts_of};
+ghost use Rattle.command_lines.specs.CommandLine.{bands_rule, check_app, list_app, over_app, play_app, prepare_app, show_app, side_rules};
+ghost use Rattle.command_lines.specs.RightWords.{AreRightWords};
+ghost use Rattle.command_lines.specs.Dimensions.{AreDimensions, HasDimensions};
+
+use crate::asked::CommandLine;
+use crate::declared::metaplay;
+use clap::error::ErrorKind;
+use clap::{ArgMatches, Error};
+use mapping::MAX_SURFACE_SIDE;
+use std::alloc::Global;
+
+/// Parses the words of a command line, the program's name first, with `clap`. The error contains the text to show to
+/// the user; help is an error too. If the words are right for a command, parsing can fail only because an allocation
+/// failed.
+pub fn line<'a>(alloc: Global, words: &'a [String]) -> Result<CommandLine<'a>, Error>
+    ensures dimensions { IfOk result HasDimensions }
+    ensures asked { IfOk result (IsAskedByWords (texts_of words.entry.now)) }
+    ensures plain { IfOk result (HasPlainWords (texts_of words.entry.now)) }
+    ensures taken { IfErr result (λ e. AreRightWords (texts_of words.entry.now) → kind_of e ≡ ErrorKind.OutOfMemory) }
+{
+    let mut command = metaplay(alloc)?;
+    let matches = command.try_get_matches_from_mut(words)?;
+    match asked(&matches) {
+        Some(line) => Ok(line),
+        None => Err(command.error(ErrorKind::InvalidValue, "no such command")?),
+    }
+}
+
+/// The command that was found, if its numbers are in range.
+fn asked<'a>(matches: &ArgMatches<'a>) -> Option<CommandLine<'a>>
+    ensures dimensions { IfSome result HasDimensions }
+    ensures asked { IfSome result (IsAskedBy (subcommand_rows_of matches.now)) }
+    ensures taken { IsRightCommand (subcommand_rows_of matches.now) → IsSome result }
+{
+    if let Some(given) = matches.subcommand_matches("show") {
+        return asked_show(given);
+    }
+    if let Some(given) = matches.subcommand_matches("prepare") {
+        return asked_prepare(given);
+    }
+    if let Some(given) = matches.subcommand_matches("check") {
+        return asked_check(given);
+    }
+    if let Some(given) = matches.subcommand_matches("play") {
+        return asked_play(given);
+    }
+    if let Some(given) = matches.subcommand_matches("over") {
+        return asked_over(given);
+    }
+    if let Some(given) = matches.subcommand_matches("list") {
+        return asked_list(given);
+    }
+    None
+}
+
+/// The arguments of `show`.
+fn asked_show<'a>(given: &ArgMatches<'a>) -> Option<CommandLine<'a>>
+    ensures dimensions { IfSome result HasDimensions }
+    ensures name { IfSome result (λ line. command_name line ≡ codes "show") }
+    ensures gives { IfSome result (HoldsWords (rows_of (found_of given.now))) }
+    ensures taken { GivesAll show_app.top.rules (rows_of (found_of given.now)) → IsSome result }
+{
+    let Some(file) = name_of(given, "FILE") else {
+        return None;
+    };
+    let Some((width, height)) = dimensions_of(given) else {
+        return None;
+    };
+    Some(CommandLine::Show {
+        file,
+        width,
+        height,
+    })
+}
+
+/// The arguments of `prepare`.
+fn asked_prepare<'a>(given: &ArgMatches<'a>) -> Option<CommandLine<'a>>
+    ensures dimensions { IfSome result HasDimensions }
+    ensures name { IfSome result (λ line. command_name line ≡ codes "prepare") }
+    ensures gives { IfSome result (HoldsWords (rows_of (found_of given.now))) }
+    ensures taken { GivesAll prepare_app.top.rules (rows_of (found_of given.now)) → IsSome result }
+{
+    let Some(file) = name_of(given, "FILE") else {
+        return None;
+    };
+    let Some((width, height)) = dimensions_of(given) else {
+        return None;
+    };
+    let Some(output) = name_of(given, "OUT") else {
+        return None;
+    };
+    Some(CommandLine::Prepare {
+        file,
+        width,
+        height,
+        output,
+    })
+}
+
+/// The arguments of `check`.
+fn asked_check<'a>(given: &ArgMatches<'a>) -> Option<CommandLine<'a>>
+    ensures dimensions { IfSome result HasDimensions }
+    ensures name { IfSome result (λ line. command_name line ≡ codes "check") }
+    ensures gives { IfSome result (HoldsWords (rows_of (found_of given.now))) }
+    ensures taken { GivesAll check_app.top.rules (rows_of (found_of given.now)) → IsSome result }
+{
+    let Some(file) = name_of(given, "FILE") else {
+        return None;
+    };
+    let Some(certificate) = name_of(given, "CERT") else {
+        return None;
+    };
+    Some(CommandLine::Check { file, certificate })
+}
+
+/// The arguments of `play`.
+fn asked_play<'a>(given: &ArgMatches<'a>) -> Option<CommandLine<'a>>
+    ensures dimensions { IfSome result HasDimensions }
+    ensures name { IfSome result (λ line. command_name line ≡ codes "play") }
+    ensures gives { IfSome result (HoldsWords (rows_of (found_of given.now))) }
+    ensures taken { GivesAll play_app.top.rules (rows_of (found_of given.now)) → IsSome result }
+{
+    let Some(file) = name_of(given, "FILE") else {
+        return None;
+    };
+    let Some(certificate) = name_of(given, "CERT") else {
+        return None;
+    };
+    let Some((width, height)) = dimensions_of(given) else {
+        return None;
+    };
+    let Some(bands) = bands_of(given) else {
+        return None;
+    };
+    Some(CommandLine::Play {
+        file,
+        certificate,
+        width,
+        height,
+        bands,
+    })
+}
+
+/// The arguments of `over`.
+fn asked_over<'a>(given: &ArgMatches<'a>) -> Option<CommandLine<'a>>
+    ensures dimensions { IfSome result HasDimensions }
+    ensures name { IfSome result (λ line. command_name line ≡ codes "over") }
+    ensures gives { IfSome result (HoldsWords (rows_of (found_of given.now))) }
+    ensures taken { GivesAll over_app.top.rules (rows_of (found_of given.now)) → IsSome result }
+{
+    let Some(file) = name_of(given, "FILE") else {
+        return None;
+    };
+    let Some(certificate) = name_of(given, "CERT") else {
+        return None;
+    };
+    let Some(image) = name_of(given, "IMAGE") else {
+        return None;
+    };
+    Some(CommandLine::Over {
+        file,
+        certificate,
+        image,
+    })
+}
+
+/// The arguments of `list`.
+fn asked_list<'a>(given: &ArgMatches<'a>) -> Option<CommandLine<'a>>
+    ensures dimensions { IfSome result HasDimensions }
+    ensures name { IfSome result (λ line. command_name line ≡ codes "list") }
+    ensures gives { IfSome result (HoldsWords (rows_of (found_of given.now))) }
+    ensures taken { GivesAll list_app.top.rules (rows_of (found_of given.now)) → IsSome result }
+{
+    let Some(file) = name_of(given, "FILE") else {
+        return None;
+    };
+    Some(CommandLine::List { file })
+}
+
+/// The text of an argument, as a file's name.
+fn name_of<'a>(given: &ArgMatches<'a>, id: &str) -> Option<&'a str>
+    ensures given { IfSome result (λ name. GivesName (rows_of (found_of given.now)) id.now name.now) }
+    ensures taken { IsSome (first_of id.now (rows_of (found_of given.now))) → IsSome result }
+{
+    given.get_str(id)
+}
+
+/// The width and height of a surface, if they are in range.
+fn dimensions_of(given: &ArgMatches<'_>) -> Option<(u32, u32)>
+    ensures dimensions { IfSome result (λ dimensions. AreDimensions dimensions.0 dimensions.1) }
+    ensures given { IfSome result (λ dimensions. GivesDimensions (rows_of (found_of given.now)) dimensions.0 dimensions.1) }
+    ensures taken { GivesAll side_rules (rows_of (found_of given.now)) → IsSome result }
+{
+    let Some(width) = side_of(given, "W") else {
+        return None;
+    };
+    let Some(height) = side_of(given, "H") else {
+        return None;
+    };
+    Some((width, height))
+}
+
+/// The number of rows in a band, if it is given. It must be in range, which the parser ensures.
+fn bands_of(given: &ArgMatches<'_>) -> Option<Option<u32>>
+    ensures range { IfSome result (λ bands. IfSome bands IsSurfaceSide) }
+    ensures given { IfSome result (GivesBands (rows_of (found_of given.now))) }
+    ensures taken { GivesArgument bands_rule (rows_of (found_of given.now)) → IsSome result }
+{
+    let Some(_) = name_of(given, "ROWS") else {
+        return Some(None);
+    };
+    let Some(rows) = side_of(given, "ROWS") else {
+        return None;
+    };
+    Some(Some(rows))
+}
+
+/// A width or a height, if it is in range, which the parser ensures.
+fn side_of(matches: &ArgMatches<'_>, id: &str) -> Option<u32>
+    ensures side { IfSome result IsSurfaceSide }
+    ensures given { IfSome result (GivesNumber (rows_of (found_of matches.now)) id.now) }
+    ensures taken { GivesSide (rows_of (found_of matches.now)) id.now → IsSome result }
+{
+    let Some(side) = matches.get_one::<u32>(id) else {
+        return None;
+    };
+    (1 <= side && side <= MAX_SURFACE_SIDE).then_some(side)
+}

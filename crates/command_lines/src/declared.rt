@@ -1,0 +1,183 @@
+//! The command line, as declared to `clap`.
+
+ghost use Rattle.std.specs.Prelude.{◌≡◌, IfOk, false};
+ghost use Rattle.clap.specs.Words.{app_of, rule_of};
+ghost use Rattle.command_lines.specs.CommandLine.{check_app, file_app, list_app, metaplay_app, name_rule, over_app};
+ghost use Rattle.command_lines.specs.CommandLine.{bands_rule, play_app, prepare_app, show_app, side_rule};
+ghost use Rattle.command_lines.specs.Apps.{AddsDimensions, IsLocalApp};
+
+use clap::{Arg, ArgAction, Command, value_parser};
+use mapping::MAX_SURFACE_SIDE;
+use std::alloc::{AllocError, Global};
+
+/// The most rows that a band may have: as many as the largest surface.
+const MOST_ROWS: u32 = MAX_SURFACE_SIDE;
+
+/// The text above the list of commands in the help.
+const ABOUT: &str = "Checks Windows metafiles (WMF, EMF) and plays them on a pixel surface.
+
+The sender of a metafile prepares a certificate for it once; the receiver checks
+both. If they are accepted, playing the file on any surface within the
+certificate's bound misuses no object, overflows nowhere, and writes at most the
+certified number of pixels.";
+
+/// The text below the options in the help.
+const GUIDE: &str = "Examples:
+  metaplay show drawing.wmf 400 300 > drawing.ppm
+  metaplay prepare drawing.wmf 4096 4096 drawing.cert
+  metaplay check drawing.wmf drawing.cert
+  metaplay play drawing.wmf drawing.cert 400 300 > drawing.ppm
+  metaplay over drawing.wmf drawing.cert page.ppm > printed.ppm
+  metaplay list drawing.wmf
+
+FILE may be the word stdin, for standard input. Images are P6 (ppm(5)), and the
+report of check is one line of JSON.
+
+Exit status:
+  0  done
+  1  the file, the certificate or the image was rejected, or the surface is
+     larger than the bound; or the records that list printed don't end properly
+  2  wrong usage, or help
+  3  an input or an output failed, or an input is longer than 268,435,456 bytes
+  4  out of memory
+
+The fault is on standard error; check and list print it on standard output.
+docs/FAULTS.md explains each fault and what to do about it.";
+
+/// The program's command line.
+pub(crate) fn metaplay<'a>(alloc: Global) -> Result<Command<'a>, AllocError>
+    ensures { IfOk result (λ command. app_of command ≡ metaplay_app) }
+{
+    let show = show(alloc)?;
+    let prepare = prepare(alloc)?;
+    let check = check(alloc)?;
+    let play = play(alloc)?;
+    let over = over(alloc)?;
+    let list = list(alloc)?;
+    Command::new(alloc, "metaplay")
+        .bin_name("metaplay")?
+        .about(ABOUT)
+        .after_help(GUIDE)
+        .subcommand_required(true)
+        .subcommand(show)?
+        .subcommand(prepare)?
+        .subcommand(check)?
+        .subcommand(play)?
+        .subcommand(over)?
+        .subcommand(list)
+}
+
+/// The command `show`.
+fn show<'a>(alloc: Global) -> Result<Command<'a>, AllocError>
+    ensures { IfOk result (IsLocalApp show_app) }
+{
+    let about = "Plays a metafile on white and writes the image to standard output";
+    let command = of_file(alloc, "show", about)?;
+    with_dimensions(alloc, command)
+}
+
+/// The command `prepare`.
+fn prepare<'a>(alloc: Global) -> Result<Command<'a>, AllocError>
+    ensures { IfOk result (IsLocalApp prepare_app) }
+{
+    let about = "Makes a certificate for a metafile, for surfaces of at most W by H";
+    let command = of_file(alloc, "prepare", about)?;
+    let command = with_dimensions(alloc, command)?;
+    command.arg(name(alloc, "OUT", "The file to write the certificate to"))
+}
+
+/// The command `check`.
+fn check<'a>(alloc: Global) -> Result<Command<'a>, AllocError>
+    ensures { IfOk result (IsLocalApp check_app) }
+{
+    let about = "Checks a metafile and its certificate and writes a report in JSON";
+    let command = of_file(alloc, "check", about)?;
+    command.arg(name(alloc, "CERT", "The certificate"))
+}
+
+/// The command `play`.
+fn play<'a>(alloc: Global) -> Result<Command<'a>, AllocError>
+    ensures { IfOk result (IsLocalApp play_app) }
+{
+    let about = "Plays a metafile by its certificate on white and writes the image";
+    let command = of_file(alloc, "play", about)?;
+    let command = command.arg(name(alloc, "CERT", "The certificate"))?;
+    let command = with_dimensions(alloc, command)?;
+    command.arg(bands(alloc))
+}
+
+/// The command `over`.
+fn over<'a>(alloc: Global) -> Result<Command<'a>, AllocError>
+    ensures { IfOk result (IsLocalApp over_app) }
+{
+    let about = "Plays a metafile by its certificate over an image; writes the result";
+    let command = of_file(alloc, "over", about)?;
+    let command = command.arg(name(alloc, "CERT", "The certificate"))?;
+    command.arg(name(
+        alloc,
+        "IMAGE",
+        "A P6 image (ppm(5)); the surface has its size",
+    ))
+}
+
+/// The command `list`.
+fn list<'a>(alloc: Global) -> Result<Command<'a>, AllocError>
+    ensures { IfOk result (IsLocalApp list_app) }
+{
+    let about = "Writes one line for each record of a metafile";
+    of_file(alloc, "list", about)
+}
+
+/// A command with a metafile.
+fn of_file<'a>(alloc: Global, command: &'a str, about: &'a str) -> Result<Command<'a>, AllocError>
+    ensures { IfOk result (IsLocalApp (file_app command.entry.now)) }
+{
+    let help = "The metafile, or the word stdin for standard input";
+    Command::new(alloc, command)
+        .about(about)
+        .arg(name(alloc, "FILE", help))
+}
+
+/// Adds the width and height of a surface to a command.
+fn with_dimensions<'a>(alloc: Global, command: Command<'a>) -> Result<Command<'a>, AllocError>
+    ensures { IfOk result (AddsDimensions command.entry) }
+{
+    command
+        .arg(side(alloc, "W", "The width of the surface in pixels"))?
+        .arg(side(alloc, "H", "The height of the surface in pixels"))
+}
+
+/// A file's name.
+fn name<'a>(alloc: Global, id: &'a str, help: &'a str) -> Arg<'a>
+    ensures rule { rule_of result ≡ name_rule id.entry.now }
+    ensures local { result.global ≡ false }
+{
+    Arg::new(alloc, id)
+        .required(true)
+        .action(ArgAction::Set)
+        .help(help)
+}
+
+/// The option for the number of rows in a band.
+fn bands<'a>(alloc: Global) -> Arg<'a>
+    ensures rule { rule_of result ≡ bands_rule }
+    ensures local { result.global ≡ false }
+{
+    Arg::new(alloc, "ROWS")
+        .long("bands")
+        .action(ArgAction::Set)
+        .value_parser(value_parser!(u32).range(1..=i64::from(MOST_ROWS)))
+        .help("How many rows to play at a time; the image is the same")
+}
+
+/// The width or the height of the surface.
+fn side<'a>(alloc: Global, id: &'a str, help: &'a str) -> Arg<'a>
+    ensures rule { rule_of result ≡ side_rule id.entry.now }
+    ensures local { result.global ≡ false }
+{
+    Arg::new(alloc, id)
+        .required(true)
+        .action(ArgAction::Set)
+        .value_parser(value_parser!(u32).range(1..=i64::from(MAX_SURFACE_SIDE)))
+        .help(help)
+}

@@ -1,0 +1,19 @@
+//! What reports in JSON have in common.
+//!
+//! # What is promised
+//!
+//! - A number, a text or a pair is put under its name among the members of an object, in the order of the names
+//!   (`put_number`, `put_number_if`, `put_text`, `pair_value`).
+//! - The counts of notes are an object with the kinds that occurred, each with its count (`notes_value`, by
+//!   `notes_data`).
+//! - The text of a report is compact JSON and a line feed (`report_text_of`, by `report_text`).
+//! - An error is returned only if memory couldn't be allocated.
+#![tactic(auto)]
+
+mod members;
+mod noted_kinds;
+mod report_text;
+
+pub use members::{pair_value, put_number, put_number_if, put_text};
+pub use noted_kinds::notes_value;
+pub use report_text::{compact_text_of, report_text_of};

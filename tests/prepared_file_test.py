@@ -1,0 +1,216 @@
+"""The file that `prepare` writes: it changes as a whole, or not at all."""
+
+import os
+import pathlib
+import resource
+import shutil
+import signal
+import subprocess
+import tempfile
+import threading
+import unittest
+
+from built import DOT, SAMPLES, Answer, answer, for_each_program
+from commands_test import DONE, DOT_CERT
+from metafile.scripts import WMF
+from program_test import CANNOT_WRITE, as_nobody
+
+SAME_FILE = Answer(2, b"", b"metaplay: OUT is FILE\n")
+
+OLD = b"as it was"
+
+# So many bytes a run may write into a file, where that is limited.
+FEW = 1000
+
+
+def at_most_few():
+    """Has writes of more bytes fail (setrlimit(2), RLIMIT_FSIZE)."""
+    signal.signal(signal.SIGXFSZ, signal.SIG_IGN)
+    resource.setrlimit(resource.RLIMIT_FSIZE, (FEW, FEW))
+
+
+class PreparedFile(unittest.TestCase):
+    def setUp(self):
+        room = tempfile.TemporaryDirectory()
+        self.addCleanup(room.cleanup)
+        self.folder = pathlib.Path(room.name)
+        self.out = self.folder / "out"
+
+    def prepare(self, program, out, given=DOT, **more):
+        """What a program answers that prepares a certificate of standard input at 4 by 4."""
+        return answer(program, ["prepare", "stdin", "4", "4", out], given, **more)
+
+    def names(self):
+        """The names in the folder."""
+        return sorted(os.listdir(self.folder))
+
+    @for_each_program
+    def test_the_file_is_there_and_no_other(self, program):
+        self.out.unlink(missing_ok=True)
+        for _ in range(2):
+            self.assertEqual(self.prepare(program, self.out), DONE)
+            self.assertEqual(self.out.read_bytes(), DOT_CERT)
+            self.assertEqual(self.names(), ["out"])
+
+    @for_each_program
+    def test_a_new_file_has_the_mode_that_the_umask_leaves(self, program):
+        self.out.unlink(missing_ok=True)
+        self.assertEqual(self.prepare(program, self.out, preexec_fn=lambda: os.umask(0o027)), DONE)
+        self.assertEqual(self.out.stat().st_mode & 0o7777, 0o640)
+
+    @for_each_program
+    def test_an_old_file_keeps_its_mode(self, program):
+        for mode in [0o600, 0o644, 0o666, 0o751, 0o200]:
+            self.out.write_bytes(OLD)
+            self.out.chmod(mode)
+            self.assertEqual(self.prepare(program, self.out), DONE)
+            self.assertEqual((self.out.stat().st_mode & 0o7777, self.out.read_bytes()), (mode, DOT_CERT))
+
+    @for_each_program
+    def test_names_in_the_folder_that_is_current(self, program):
+        (self.folder / "more").mkdir(exist_ok=True)
+        for name in ["out", "./out", "more/../out", "a" * 255, "é\t'\""]:
+            self.assertEqual(self.prepare(program, name, cwd=self.folder), DONE, name)
+            self.assertEqual((self.folder / name).read_bytes(), DOT_CERT)
+            (self.folder / name).unlink()
+        self.assertEqual(self.names(), ["more"])
+
+    @for_each_program
+    def test_paths_that_are_too_long_cannot_be_written(self, program):
+        for name in ["a" * 256, "./" * 2046 + "out", "./" * 2047 + "out", "./" * 5000 + "out"]:
+            wanted = DONE if len(name) == 4095 else CANNOT_WRITE
+            self.assertEqual(self.prepare(program, name, cwd=self.folder), wanted, len(name))
+
+    @for_each_program
+    def test_names_that_are_taken_are_left_as_they_are(self, program):
+        for taken in [".metaplay-0", ".metaplay-1"]:
+            (self.folder / taken).write_bytes(OLD)
+        self.assertEqual(self.prepare(program, self.out), DONE)
+        self.assertEqual(self.names(), [".metaplay-0", ".metaplay-1", "out"])
+        self.assertEqual((self.folder / ".metaplay-0").read_bytes(), OLD)
+
+    @for_each_program
+    def test_a_link_leads_to_the_file_that_is_written(self, program):
+        for target in [self.folder / "there", self.folder / "new"]:
+            if target.name == "there":
+                target.write_bytes(OLD)
+            self.out.unlink(missing_ok=True)
+            self.out.symlink_to(target)
+            self.assertEqual(self.prepare(program, self.out), DONE)
+            self.assertTrue(self.out.is_symlink())
+            self.assertEqual(target.read_bytes(), DOT_CERT)
+            target.unlink()
+
+    @for_each_program
+    def test_a_fifo_is_written_as_it_is(self, program):
+        self.out.unlink(missing_ok=True)
+        os.mkfifo(self.out)
+        found = []
+        reader = threading.Thread(target=lambda: found.append(self.out.read_bytes()))
+        reader.start()
+        self.assertEqual(self.prepare(program, self.out), DONE)
+        reader.join()
+        self.assertEqual((found, self.out.is_fifo()), ([DOT_CERT], True))
+        self.out.unlink()
+
+    @for_each_program
+    def test_a_write_that_fails_leaves_the_old_file_and_no_other(self, program):
+        many = WMF.file(WMF.records("; ".join(f"pixel {x} 0" for x in range(200))), 8, 2)
+        for old in [OLD, None]:
+            self.out.unlink(missing_ok=True)
+            if old:
+                self.out.write_bytes(old)
+            self.assertEqual(self.prepare(program, self.out, many, preexec_fn=at_most_few), CANNOT_WRITE)
+            self.assertEqual(self.names(), ["out"] if old else [])
+            self.assertEqual(self.out.read_bytes() if old else None, old)
+
+    @for_each_program
+    def test_a_folder_that_takes_no_file(self, program):
+        copy = shutil.copy(program, tempfile.mkdtemp())
+        self.addCleanup(shutil.rmtree, os.path.dirname(copy))
+        os.chmod(os.path.dirname(copy), 0o755)
+        os.chmod(copy, 0o755)
+        self.out.write_bytes(OLD)
+        self.out.chmod(0o666)
+        self.folder.chmod(0o755)
+        self.assertEqual(self.prepare(copy, self.out, preexec_fn=as_nobody), CANNOT_WRITE)
+        self.assertEqual((self.out.read_bytes(), self.names()), (OLD, ["out"]))
+
+    @for_each_program
+    def test_the_metafile_is_not_replaced(self, program):
+        file = self.folder / "file"
+        file.write_bytes(DOT)
+        (self.folder / "link").unlink(missing_ok=True)
+        (self.folder / "link").symlink_to(file)
+        (self.folder / "second").unlink(missing_ok=True)
+        os.link(file, self.folder / "second")
+        for name in ["file", "./file", str(file), "link", "second"]:
+            for words in [("file", name), (name, "file")]:
+                told = answer(program, ["prepare", words[0], "4", "4", words[1]], cwd=self.folder)
+                self.assertEqual((told, file.read_bytes()), (SAME_FILE, DOT), words)
+        self.assertEqual(self.names(), ["file", "link", "second"])
+
+    @for_each_program
+    def test_nothing_is_read_before_that(self, program):
+        # Reading from a FIFO that nobody writes to would wait forever.
+        (self.folder / "fifo").unlink(missing_ok=True)
+        os.mkfifo(self.folder / "fifo")
+        told = answer(program, ["prepare", "fifo", "4", "4", "fifo"], cwd=self.folder)
+        self.assertEqual(told, SAME_FILE)
+
+    @for_each_program
+    def test_standard_input_has_no_name(self, program):
+        file = self.folder / "stdin"
+        file.write_bytes(DOT)
+        with open(file, "rb") as given:
+            run = subprocess.run([program, "prepare", "stdin", "4", "4", "stdin"], stdin=given, cwd=self.folder, capture_output=True)
+        self.assertEqual((run.returncode, file.read_bytes()), (0, DOT_CERT))
+
+
+class StoppedRuns(unittest.TestCase):
+    """Runs that are killed before one of their calls that change files (stop_calls.c), each call in turn."""
+
+    @classmethod
+    def setUpClass(cls):
+        room = tempfile.TemporaryDirectory()
+        cls.addClassCleanup(room.cleanup)
+        cls.folder = pathlib.Path(room.name)
+        cls.library = cls.folder / "stop_calls.so"
+        source = pathlib.Path(__file__).with_name("stop_calls.c")
+        subprocess.run(["cc", "-O2", "-Wall", "-Wextra", "-Werror", "-shared", "-fPIC", "-o", cls.library, source, "-ldl"], check=True)
+
+    def stopped(self, program, out, before):
+        """What becomes of an output that was this before, and how many other files are left, of each run that is killed; last of the run that isn't."""
+        folder = out.parent
+        for number in range(1, 100):
+            shutil.rmtree(folder, ignore_errors=True)
+            folder.mkdir()
+            if before is not None:
+                out.write_bytes(before)
+            settings = {**os.environ, "LD_PRELOAD": str(self.library), "STOP_CALL": str(number)}
+            told = answer(program, ["prepare", SAMPLES / "wheel.wmf", "64", "64", out], env=settings)
+            left = len(set(os.listdir(folder)) - {"out"})
+            yield told.status, out.read_bytes() if out.exists() else None, left
+            if told.status == 0:
+                return
+
+    @for_each_program
+    def test_the_file_is_the_old_one_or_the_new_one(self, program):
+        whole = self.folder / "whole"
+        self.assertEqual(answer(program, ["prepare", SAMPLES / "wheel.wmf", "64", "64", whole]), DONE)
+        new = whole.read_bytes()
+        for before in [OLD, None]:
+            runs = list(self.stopped(program, self.folder / "runs/out", before))
+            killed = [run for run in runs if run[0] == -signal.SIGKILL]
+            self.assertEqual(runs[-1], (0, new, 0))
+            self.assertEqual(len(killed), len(runs) - 1)
+            # At least the calls that open FILE, open a new file, write it, and rename it.
+            self.assertGreaterEqual(len(killed), 4)
+            # Nothing is renamed before the last of these calls, and a killed run leaves at most its own file.
+            self.assertEqual({out for _, out, _ in killed}, {before})
+            self.assertLessEqual({left for _, _, left in killed}, {0, 1})
+            self.assertEqual(killed[-1][2], 1)
+
+
+if __name__ == "__main__":
+    unittest.main()
