@@ -1,0 +1,22 @@
+# Completions of metaplay for bash. Made by packaging/make_manual.py.
+_metaplay() {
+    local word=${COMP_WORDS[COMP_CWORD]} options=""
+    COMPREPLY=()
+    if [ "$COMP_CWORD" -eq 1 ]; then
+        mapfile -t COMPREPLY < <(compgen -W "show prepare check play over list help --help" -- "$word")
+        return
+    fi
+    case ${COMP_WORDS[1]} in
+        show) options="--help" ;;
+        prepare) options="--help" ;;
+        check) options="--help" ;;
+        play) options="--bands --help" ;;
+        over) options="--help" ;;
+        list) options="--help" ;;
+    esac
+    case $word in
+        -*) mapfile -t COMPREPLY < <(compgen -W "$options" -- "$word") ;;
+        *) compopt -o default ;;
+    esac
+}
+complete -F _metaplay metaplay

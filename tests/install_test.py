@@ -1,0 +1,102 @@
+"""`metaplay install` and `metaplay uninstall`: what they put where, and that nothing is left. The manual page and the completions say what the
+program's help says."""
+
+import os
+import pathlib
+import shutil
+import subprocess
+import sys
+import tempfile
+import unittest
+
+from built import DOT, DOT_IMAGE, PROGRAMS, ROOT, Answer, answer
+
+sys.path.insert(0, str(ROOT / "packaging"))
+
+from make_manual import commands, stale  # noqa: E402
+
+LAUNCHER = ROOT / "metaplay"
+
+# Where files are installed, by their places below the prefix, and whether they are programs.
+INSTALLED = {
+    "bin/metaplay": True,
+    "share/man/man1/metaplay.1": False,
+    "share/bash-completion/completions/metaplay": False,
+    "share/zsh/site-functions/_metaplay": False,
+    "share/fish/vendor_completions.d/metaplay.fish": False,
+    **{f"share/metaplay/recipes/{it.name}": os.access(it, os.X_OK) for it in (ROOT / "docs/recipes").iterdir()},
+}
+
+
+def launched(*words, **environment):
+    """What the launcher answers."""
+    ran = subprocess.run([LAUNCHER, *words], capture_output=True, env={**os.environ, **environment}, check=False)
+    return Answer(ran.returncode, ran.stdout, ran.stderr)
+
+
+def files_in(folder):
+    """The places of the files in a folder, and whether they are programs."""
+    found = [it for it in pathlib.Path(folder).rglob("*") if it.is_file()]
+    return {str(it.relative_to(folder)): os.access(it, os.X_OK) for it in found}
+
+
+class Installation(unittest.TestCase):
+    """Files that are installed."""
+
+    def setUp(self):
+        self.folder = pathlib.Path(tempfile.mkdtemp())
+        self.addCleanup(shutil.rmtree, self.folder)
+
+    def test_each_file_is_installed_and_removed(self):
+        prefix = self.folder / "a b/usr"
+        self.assertEqual(launched("install", str(prefix)), Answer(0, b"", b""))
+        self.assertEqual(files_in(prefix), INSTALLED)
+        self.assertEqual(answer(prefix / "bin/metaplay", ["show", "stdin", "4", "4"], DOT), Answer(0, DOT_IMAGE, b""))
+        (prefix / "bin/other").write_text("")
+        self.assertEqual(launched("uninstall", str(prefix)), Answer(0, b"", b""))
+        self.assertEqual(files_in(prefix), {"bin/other": False})
+        self.assertFalse((prefix / "share/metaplay").exists())
+
+    def test_a_package_is_made_below_destdir(self):
+        self.assertEqual(launched("install", "/usr/", DESTDIR=str(self.folder)), Answer(0, b"", b""))
+        self.assertEqual(files_in(self.folder / "usr"), INSTALLED)
+        self.assertEqual(launched("uninstall", "/usr", DESTDIR=str(self.folder)), Answer(0, b"", b""))
+        self.assertEqual(files_in(self.folder), {})
+
+    def test_wrong_words_install_nothing(self):
+        usage = b"metaplay: usage: metaplay install PREFIX, or metaplay uninstall PREFIX; PREFIX is an absolute path\n"
+        for words in ([], [""], ["usr"], [str(self.folder), "more"]):
+            for name in ("install", "uninstall"):
+                self.assertEqual(launched(name, *words), Answer(2, b"", usage), (name, words))
+        self.assertEqual(files_in(self.folder), {})
+
+    def test_a_folder_that_cannot_be_written_is_status_3(self):
+        (self.folder / "bin").write_text("")
+        told = launched("install", str(self.folder))
+        self.assertEqual((told.status, told.out), (3, b""))
+        self.assertIn(b"bin", told.err)
+
+
+class Made(unittest.TestCase):
+    """The manual page and the completions."""
+
+    def test_they_are_fresh(self):
+        self.assertEqual(stale(PROGRAMS[0]), [], "packaging/make_manual.py writes them")
+
+    def test_bash_completes_commands_options_and_files(self):
+        for words, wanted in [(["pre"], ["prepare"]), (["play", "--b"], ["--bands"]), (["show", "-"], ["--help"])]:
+            count = len(words)
+            script = f'. "$1"; shift; COMP_WORDS=(metaplay "$@"); COMP_CWORD={count}; _metaplay; printf "%s\\n" "${{COMPREPLY[@]}}"'
+            ran = subprocess.run(["bash", "-c", script, "bash", ROOT / "packaging/metaplay.bash", *words], capture_output=True, text=True, check=True)
+            self.assertEqual(ran.stdout.split(), wanted, words)
+
+    def test_the_manual_has_each_command_and_each_fault(self):
+        page = (ROOT / "packaging/metaplay.1").read_text(encoding="utf-8")
+        for command in commands(PROGRAMS[0]):
+            self.assertIn(f".SS {command.name}", page)
+        self.assertEqual(page.count("\n.TP\n.B "), len([line for line in page.splitlines() if line == ".TP"]))
+        self.assertIn(".B NibTooWide\n46. ", page)
+
+
+if __name__ == "__main__":
+    unittest.main()
