@@ -12,8 +12,6 @@ mod comparing;
 #[cfg(test)]
 mod files;
 #[cfg(test)]
-mod machine_sizes;
-#[cfg(test)]
 mod machines;
 #[cfg(test)]
 mod paths;
@@ -21,7 +19,5 @@ mod paths;
 mod rows_apart;
 #[cfg(test)]
 mod sources;
-#[cfg(test)]
-mod state_depths;
 #[cfg(test)]
 mod stepping;
