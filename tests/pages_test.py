@@ -17,10 +17,12 @@ OTHERS = {
     "Display": "a trait of the toolchain's",
     "From": "a trait of the toolchain's",
     "assert_eq!": "a macro of the toolchain's",
+    "DESTDIR": "a variable that packagers set",
     "Global": "a type of the toolchain's",
     "cannot read": "what standard error tells",
     "cannot write": "what standard error tells",
     "cc": "a program",
+    "install": "a word of the launcher",
     "malloc": "a call of the C library's",
     "proofs/": "a folder of each crate",
     "python3": "a program",
@@ -31,6 +33,7 @@ OTHERS = {
     "serde_json": "a library",
     "specs/": "a folder of each crate",
     "try": "a word of the launcher",
+    "uninstall": "a word of the launcher",
     "valgrind": "a program",
 }
 
@@ -40,7 +43,12 @@ TOLD = re.compile(r"metaplay:? ")
 CRATES = crates()
 
 # The words of the command line: each stands by itself in the sources of the commands.
-WORDS = {word for text in CRATES["commands"].sources.values() for word in re.findall(r'"([a-z]+)"', text)}
+WORDS = {
+    word
+    for crate in ("command_lines", "commands")
+    for text in CRATES[crate].sources.values()
+    for word in re.findall(r'"([a-z]+)"', text)
+}
 
 
 def text_of(page):
@@ -92,8 +100,8 @@ class Layers(unittest.TestCase):
         layers = {name for name in CRATES if not name.startswith("example_")} - tests
         self.assertEqual(in_rows & CRATES.keys(), layers)
         self.assertEqual(tests - set(quoted(text)), set())
-        numbers = {3: "three", 4: "four", 5: "five", 6: "six", 16: "sixteen", 17: "seventeen", 18: "eighteen", 19: "nineteen"}
-        self.assertIn(f"{numbers[len(layers)]} crates, and {numbers[len(tests)]} of tests", text.split("\n")[2])
+        numbers = {3: "three", 4: "four", 5: "five", 6: "six"}
+        self.assertIn(f"{len(layers)} crates, and {numbers[len(tests)]} of tests", text.split("\n")[2])
 
 
 if __name__ == "__main__":

@@ -40,7 +40,7 @@ FIXED = re.compile(r"`[^`]*`")
 PAGES = [ROOT / "README.md", ROOT / "bench" / "README.md", *sorted((ROOT / "docs").glob("*.md"))]
 
 # The texts of `--help`.
-HELP = CRATES / "commands" / "src" / "declared.rt"
+HELP = CRATES / "command_lines" / "src" / "declared.rt"
 
 
 def help_texts():

@@ -13,8 +13,8 @@ from built import CRATES
 PROGRAMS = [CRATES / "test_requests/out/test_requests", CRATES / "test_requests/out/test_requests.by-rattle"]
 
 # Kinds of requests: prepare a file's certificate, check one, play the file by one over an image, or play it on white, which is answered by
-# how many pixels were written; and each command.
-PREPARE, CHECK, PLAY, COUNT, SHOW, PREPARE_COMMAND, CHECK_COMMAND, PLAY_COMMAND, OVER, LIST = range(10)
+# how many pixels were written; each command; and the information about a file, whose name is in place of the certificate.
+PREPARE, CHECK, PLAY, COUNT, SHOW, PREPARE_COMMAND, CHECK_COMMAND, PLAY_COMMAND, OVER, LIST, INFO = range(11)
 
 
 def asked(kind, sides, given, certificate=b"", image=b""):
@@ -65,7 +65,7 @@ class Ended(NamedTuple):
 
 def length_behind(words, told, place):
     """How many bytes lie behind a line of these words."""
-    if words[0] == "prepared":
+    if words[0] in ("prepared", "informed"):
         return int(words[1])
     if words[0] == "played":
         _, sides, _, _ = told[place : place + 20].split(b"\n", 3)
