@@ -42,7 +42,7 @@ abbrev pub count_with : Option FaultCount → ℕ
 count_with None = 1
 count_with (Some counted) = min (counted.count + 1) fault_limit
 
--- counts of any faults, of which there are few enough, become counts of these and one more
+-- if the old counts are those of some faults, fewer than the limit, the new counts are those of these and one more
 abbrev pub CountsOneMore : List (ℕ × FaultCount) → Fault → List (ℕ × FaultCount) → Type 0
 CountsOneMore old fault new =
     (faults : List Fault) → length faults < fault_limit → CountsFaults faults old → CountsFaults (faults ++ fault ∷ []) new
