@@ -8,6 +8,7 @@ use Rattle.clap.specs.Simple.{subcommand_rows}
 use Rattle.clap.specs.declared.parser.matches.SubCommand.{SubCommand}
 use Rattle.clap.specs.declared.parser.matches.ArgMatches.TheViews.{out-SubCommand}
 use Rattle.command_lines.specs.CommandLine.{GivesAll, HoldsWords, IsAskedBy, IsRightCommand, command_name, metaplay_app}
+use Rattle.command_lines.specs.InfoWords.{IsOther}
 use Rattle.command_lines.specs.declared.asked.CommandLine.{CommandLine}
 
 same_inside : {A : Type 0} {x y : A} → Some x ≡ Some y → x ≡ y
@@ -65,6 +66,11 @@ module _ {Z : Type 0} where
   name_right : (met : Option (Box SubCommand Z)) (right : IsRightCommand (subcommand_rows met)) → name_met met ≡ Some right.name
   name_right None right = ap (option_map (λ (command : Text × List Row). command.0)) right.command
   name_right (Some b) right = ap (option_map (λ (command : Text × List Row). command.0)) right.command
+
+  -- a command of another name was found, if one was
+  pub other_met : (met : Option (Box SubCommand Z)) (name : Text) → IsOther name (subcommand_rows met) → name_met met ≡ Some name → false ≡ true
+  other_met None name other named = cc
+  other_met (Some b) name other named = absurd (other _ (both_met (Some b) name _ named refl))
 
   -- if no command was found, no command line was right
   pub none_right : (met : Option (Box SubCommand Z)) → IsRightCommand (subcommand_rows met) → AreNotMet (name_met met) metaplay_app.subs → ⊥

@@ -118,7 +118,7 @@ pub rows_kinds : (c : List Rule) (kinds : List ArgumentKind) (words : List Text)
 rows_kinds c kinds words are = ap (λ (w : Walk). finished c w.held) (walked_kinds c kinds (walk_from nothing_held) words are)
 
 -- whether a command accepts them
-abbrev end_passes : Shape → Bool → Held → Bool
+abbrev pub end_passes : Shape → Bool → Held → Bool
 end_passes s walk_passed end =
     walk_passed && (settle_passes s.rules s.args_override_self end && (list_all default_passes s.rules && is_valid s (finished s.rules end) false))
 

@@ -1,5 +1,5 @@
 -- clap accepts right words, and they give a command the arguments that it takes.
-use Rattle.std.proofs.Common.{◌≡◌, ◌∙◌, ◌&&◌, ap, ap₂, sym, subst, refl, Bool, List, [], ◌∷◌, false, true, Some, codes, find, pos, unwrap_or}
+use Rattle.std.proofs.Common.{◌≡◌, ◌∙◌, ◌&&◌, ap, ap₂, arith, sym, subst, refl, Bool, ℕ, List, [], ◌∷◌, false, true, Some, codes, find, pos, unwrap_or}
 use Rattle.std.specs.List.{All}
 use Rattle.std.specs.Str.{bytes_eq}
 use Rattle.std.proofs.lemmas.List.Elements.{All-cons, All-nil}
@@ -12,6 +12,7 @@ use Rattle.clap.specs.Walk.{Row, Text, finished, nothing_held, one_of, rows_afte
 use Rattle.clap.specs.Words.{subcommand_of, takes}
 use Rattle.clap.proofs.OnLiterals.{clap_on_literals}
 use Rattle.command_lines.specs.CommandLine.{GivesAll, GivesSide, IsRightCommand, IsSideText, check_app, list_app, metaplay_app, over_app, play_app, prepare_app, show_app}
+use Rattle.command_lines.specs.InfoWords.{IsOther}
 use Rattle.command_lines.specs.RightWords.{AreOfKinds, AreRightWords, ArgumentKind, IsOfKind, bands, name, side, usages}
 use Rattle.command_lines.proofs.KindLemmas.{kinds_end, horizontal_is, horizontal_kinds, rows_kinds}
 use Rattle.command_lines.proofs.SideLemmas.{no_minus, plain_side, side_passes}
@@ -21,16 +22,17 @@ side_given : (given : List Row) (id word : Text) → one_of id given ≡ Some (w
 side_given given id word is of_side = record { text = word; is_given = is ∙ ap Some (no_minus word (plain_side word of_side)); is_side = of_side }
 
 -- clap accepts these arguments of a command, and they are the ones that it takes
-record IsTaken (command : Text) (arguments : List Text) : Type 0 where
-  taken : (program : Text) → takes metaplay_app (program ∷ command ∷ arguments) ≡ true
-  right : (program : Text) → IsRightCommand (subcommand_of metaplay_app (program ∷ command ∷ arguments))
+pub record IsTaken (command : Text) (arguments : List Text) : Type 0 where
+  pub taken : (program : Text) → takes metaplay_app (program ∷ command ∷ arguments) ≡ true
+  pub right : (program : Text) → IsRightCommand (subcommand_of metaplay_app (program ∷ command ∷ arguments))
+  pub named : (program : Text) → (right program).name ≡ command
 
 -- a command as clap builds it
-abbrev built_shape : Text → Shape
+abbrev pub built_shape : Text → Shape
 built_shape command = unwrap_or (find (λ s. bytes_eq s.name command) (built metaplay_app).subs) metaplay_app.top
 
 -- what clap returns for words of these kinds computes
-of_usage : (command : Text) (declared : Shape) (kinds : List ArgumentKind) (arguments : List Text) → AreOfKinds kinds arguments
+pub of_usage : (command : Text) (declared : Shape) (kinds : List ArgumentKind) (arguments : List Text) → AreOfKinds kinds arguments
     → find (λ s. bytes_eq s.name command) metaplay_app.subs ≡ Some declared
     → ((program : Text) → level_passes (built_shape command) [] nothing_held arguments false ≡ true → takes metaplay_app (program ∷ command ∷ arguments) ≡ true)
     → ((program : Text) → subcommand_of metaplay_app (program ∷ command ∷ arguments) ≡ Some (command, rows_after (built_shape command).rules [] arguments))
@@ -46,6 +48,7 @@ of_usage command declared kinds arguments are found enters meets passes gives = 
     declared = found;
     allowed = gives;
   };
+  named = λ program. refl;
 }
 
 -- a statement holds for all words of these kinds
@@ -115,17 +118,34 @@ list_taken file f =
 abbrev UsageIsTaken : Text × List ArgumentKind → Type 0
 UsageIsTaken usage = OfKinds usage.1 (IsTaken usage.0)
 
-abbrev EachIsTaken : List (Text × List ArgumentKind) → Type 0
-EachIsTaken [] = Unit {0}
-EachIsTaken (usage ∷ others) = UsageIsTaken usage × EachIsTaken others
+-- a statement holds for each usage of a list
+abbrev Each : (Text × List ArgumentKind → Type 0) → List (Text × List ArgumentKind) → Type 0
+Each holds [] = Unit {0}
+Each holds (usage ∷ others) = holds usage × Each holds others
 
-all_of : (list : List (Text × List ArgumentKind)) → EachIsTaken list → All UsageIsTaken list
-all_of [] each = All-nil UsageIsTaken
-all_of (usage ∷ others) each = All-cons UsageIsTaken usage others each.0 (all_of others each.1)
+all_of : (holds : Text × List ArgumentKind → Type 0) (list : List (Text × List ArgumentKind)) → Each holds list → All holds list
+all_of holds [] each = All-nil holds
+all_of holds (usage ∷ others) each = All-cons holds usage others each.0 (all_of holds others each.1)
 
 -- every usage is accepted
 all_taken : All UsageIsTaken usages
-all_taken = all_of usages (show_taken, (prepare_taken, (check_taken, (play_taken, (bands_taken, (over_taken, (list_taken, tt)))))))
+all_taken = all_of UsageIsTaken usages (show_taken, (prepare_taken, (check_taken, (play_taken, (bands_taken, (over_taken, (list_taken, tt)))))))
+
+-- the first byte of a command's name
+abbrev first_byte : Text → ℕ
+first_byte [] = 0
+first_byte (byte ∷ rest) = byte
+
+-- two bytes differ
+abbrev are_apart : ℕ → ℕ → Type 0
+are_apart a b = a ≡ b → ⊥
+
+-- the usage isn't that of `info`, since its name begins with another byte
+abbrev BeginsOtherwise : Text × List ArgumentKind → Type 0
+BeginsOtherwise usage = are_apart (first_byte usage.0) (first_byte (codes "info"))
+
+none_is_info : All BeginsOtherwise usages
+none_is_info = all_of BeginsOtherwise usages ((λ e. omega (arith, e)), ((λ e. omega (arith, e)), ((λ e. omega (arith, e)), ((λ e. omega (arith, e)), ((λ e. omega (arith, e)), ((λ e. omega (arith, e)), ((λ e. omega (arith, e)), tt)))))))
 
 is_taken : (words : List Text) (right : AreRightWords words) → IsTaken right.command right.arguments
 is_taken words right =
@@ -143,3 +163,17 @@ right_taken words right =
 pub right_command : (words : List Text) → AreRightWords words → IsRightCommand (subcommand_of metaplay_app words)
 right_command words right =
     subst (λ (l : List Text). IsRightCommand (subcommand_of metaplay_app l)) (sym right.are) ((is_taken words right).right right.program)
+
+same_inside : {A : Type 0} {x y : A} → Some x ≡ Some y → x ≡ y
+same_inside e = cc
+
+-- right words give a command other than `info`
+pub other_than_info : (words : List Text) → AreRightWords words → IsOther (codes "info") (subcommand_of metaplay_app words)
+other_than_info words right given met =
+    let taken = is_taken words right in
+    let command = taken.right right.program in
+    let at : subcommand_of metaplay_app (right.program ∷ right.command ∷ right.arguments) ≡ Some (codes "info", given) = subst (λ (l : List Text). subcommand_of metaplay_app l ≡ Some (codes "info", given)) right.are met in
+    let named : command.name ≡ codes "info" = ap (λ (both : Text × List Row). both.0) (same_inside (sym command.command ∙ at)) in
+    let usage = right.right in
+    let apart : BeginsOtherwise usage.1 = subst BeginsOtherwise usage.3 (none_is_info usage.0 usage.1 usage.2) in
+    apart (ap first_byte (usage.4.0 ∙ (sym (taken.named right.program) ∙ named)))

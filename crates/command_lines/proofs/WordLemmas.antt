@@ -7,7 +7,11 @@ use Rattle.clap.specs.Words.{first_of, subcommand_of}
 use Rattle.clap.proofs.OnLiterals.{clap_on_literals}
 use Rattle.command_lines.specs.declared.asked.CommandLine.{CommandLine}
 use Rattle.command_lines.specs.declared.asked.CommandLine.TheVariants.{Check, List as ListLine, Over, Play, Prepare, Show}
-use Rattle.command_lines.specs.CommandLine.{AreOfWords, GivesName, GivesNumber, GivesDimensions, HasPlainWords, HasWords, IsAskedByWords, IsPlainWord, metaplay_app, number_of}
+use Rattle.command_lines.specs.CommandLine.{AreOfWords, GivesName, GivesNumber, GivesDimensions, HasWords, IsAskedByWords, IsPlainWord, metaplay_app, number_of}
+use Rattle.command_lines.specs.Asked.{HasPlainWords, IsAskedFor}
+use Rattle.command_lines.specs.InfoWords.{AsksInfoByWords, names_in}
+use Rattle.command_lines.specs.declared.asked.Asked.{Asked}
+use Rattle.command_lines.specs.declared.asked.Asked.TheVariants.{Command, Info}
 use Rattle.command_lines.specs.RightWords as kind
 use Rattle.command_lines.proofs.KindLemmas.{kinds_end, rows_kinds}
 use Rattle.command_lines.proofs.SideLemmas.{no_minus}
@@ -97,6 +101,11 @@ given_words (ListLine name) program file wide high plain_file plain_wide plain_h
     let bad : is_byte 115 108 = one_name _ _ _ _ _ rows asked.command in absurd (omega (arith, bad))
 
 -- what these five words ask for
-pub plain_words : (words : List Text) (line : CommandLine) → IsAskedByWords words line → HasPlainWords words line
-plain_words words line asked program file wide high plain_file plain_wide plain_high is =
+pub plain_words : (words : List Text) (asked : Asked) → IsAskedFor words asked → HasPlainWords words asked
+plain_words words (Command line) asked program file wide high plain_file plain_wide plain_high is =
     given_words line program file wide high plain_file plain_wide plain_high (subst (λ (l : List Text). IsAskedByWords l line) is asked)
+plain_words words (Info names) asked program file wide high plain_file plain_wide plain_high is =
+    let rows = shown_rows program file wide high plain_file plain_wide plain_high in
+    let about : AsksInfoByWords (program ∷ codes "show" ∷ file ∷ wide ∷ high ∷ []) (names_in names.items) =
+    subst (λ (l : List Text). AsksInfoByWords l (names_in names.items)) is asked in
+    let bad : is_byte 115 105 = one_name _ _ _ _ _ rows about.command in absurd (omega (arith, bad))

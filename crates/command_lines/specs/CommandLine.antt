@@ -4,8 +4,9 @@ use Rattle.std.specs.Str.{bytes_eq}
 use Rattle.mapping.specs.Limits.{surface_side_limit}
 use Rattle.std.specs.Str.Parse.{IsNumeral, digits_value, without_leading_plus}
 use Rattle.std.specs.declared.alloc.Global.{Global}
+use Rattle.clap.specs.Lexer.{usize_max}
 use Rattle.clap.specs.Words.{App, Row, Rule, Shape, Text, first_of, new_app, new_rule, one_of, subcommand_of, with_rule, with_subcommand}
-use Rattle.clap.specs.declared.builder.ArgAction.TheVariants.{Set}
+use Rattle.clap.specs.declared.builder.ArgAction.TheVariants.{Append, Set}
 use Rattle.clap.specs.declared.builder.value_parser.ValueParser.{ValueParser}
 use Rattle.clap.specs.declared.builder.value_parser.ValueParser.TheVariants.{Signed}
 use Rattle.command_lines.specs.Dimensions.{HasDimensions}
@@ -60,6 +61,14 @@ over_app = with_rule (with_rule (file_app (codes "over")) (name_rule (codes "CER
 abbrev pub list_app : App
 list_app = file_app (codes "list")
 
+-- FILE..., one or more names
+abbrev pub files_rule : Rule
+files_rule = record (name_rule (codes "FILE")) { action = Some Append; range = Some (record { start_inclusive = 1; end_inclusive = usize_max }) }
+
+-- info FILE...
+abbrev pub info_app : App
+info_app = with_rule (new_app (codes "info")) files_rule
+
 -- metaplay without its commands; a command is required
 abbrev pub bare_app : App
 bare_app = record (new_app (codes "metaplay")) { top = record (new_app (codes "metaplay")).top { subcommand_required = true } }
@@ -68,9 +77,11 @@ bare_app = record (new_app (codes "metaplay")) { top = record (new_app (codes "m
 abbrev pub metaplay_app : App
 metaplay_app =
     with_subcommand
+    (with_subcommand
     (with_subcommand (with_subcommand (with_subcommand (with_subcommand (with_subcommand bare_app show_app.top) prepare_app.top) check_app.top) play_app.top)
     over_app.top)
-    list_app.top
+    list_app.top)
+    info_app.top
 
 -- the number of a text: its decimal digits, after an optional plus sign
 abbrev pub number_of : Text → ℕ
@@ -146,13 +157,6 @@ pub record AreOfWords (file wide high : Text) (name : Text) (width height : ℕ)
 abbrev pub HasWords : Text → Text → Text → CommandLine → Type 0
 HasWords file wide high (Show name width height) = AreOfWords file wide high name.now width height
 HasWords file wide high line = ⊥
-
--- if the words are the program's name, `show` and three words that don't begin with a hyphen, the command line has
--- these three
-abbrev pub HasPlainWords : List Text → CommandLine → Type 0
-HasPlainWords words line =
-    (program file wide high : Text) → IsPlainWord file → IsPlainWord wide → IsPlainWord high
-    → words ≡ program ∷ codes "show" ∷ file ∷ wide ∷ high ∷ [] → HasWords file wide high line
 
 -- the text is a decimal numeral from 1 to 8,192, without a sign
 pub record IsSideText (text : Text) : Type 0 where

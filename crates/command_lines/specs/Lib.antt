@@ -1,4 +1,6 @@
 pub mod Apps
+pub mod Asked
 pub mod CommandLine
 pub mod Dimensions
+pub mod InfoWords
 pub mod RightWords

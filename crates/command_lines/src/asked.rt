@@ -1,4 +1,16 @@
-//! The commands that a command line can ask for.
+//! What a command line can ask for.
+
+/// The word that stands for standard input.
+pub const STANDARD_INPUT: &str = "stdin";
+
+/// What a command line asks for.
+#[derive(Drop)]
+pub enum Asked<'a> {
+    /// A command on one file.
+    Command(CommandLine<'a>),
+    /// Information about the files with these names, of which at most one is the word `stdin`.
+    Info(Vec<&'a str>),
+}
 
 /// A command with its arguments. A file name is the name of a file; FILE may also be the word `stdin`.
 #[derive(Clone, Copy, Debug, PartialEq, Eq)]

@@ -1,43 +1,92 @@
 //! Parses the command line.
 
-ghost use Rattle.std.specs.Prelude.{◌≡◌, IfErr, IfOk, IfSome, IsSome, codes};
-ghost use Rattle.clap.specs.Words.{first_of, found_of, kind_of, rows_of, subcommand_rows_of};
+ghost use Rattle.std.specs.Prelude.{◌≡◌, ◌≤◌, IfErr, IfOk, IfSome, IsSome, Some, codes, count_by, length};
+ghost use Rattle.std.specs.Str.{bytes_eq};
+ghost use Rattle.clap.specs.Lexer.{usize_max};
+ghost use Rattle.clap.specs.Words.{all_of, first_of, found_of, kind_of, rows_of, subcommand_rows_of};
 ghost use Rattle.mapping.specs.Limits.{IsSurfaceSide};
+ghost use Rattle.command_lines.specs.Asked.{HasPlainWords, IsAskedFor, IsFound, IsValid};
 ghost use Rattle.command_lines.specs.CommandLine.{GivesAll, GivesArgument, GivesBands, GivesName, GivesNumber, GivesSide, GivesDimensions};
-ghost use Rattle.command_lines.specs.CommandLine.{HasPlainWords, HoldsWords, IsAskedBy, IsAskedByWords, IsRightCommand, command_name, texts_of};
+ghost use Rattle.command_lines.specs.CommandLine.{HoldsWords, IsAskedBy, IsRightCommand, command_name, texts_of};
 ghost use Rattle.command_lines.specs.CommandLine.{bands_rule, check_app, list_app, over_app, play_app, prepare_app, show_app, side_rules};
-ghost use Rattle.command_lines.specs.RightWords.{AreRightWords};
+ghost use Rattle.command_lines.specs.InfoWords.{AreCommandWords, AsksInfoOnce, GivesNamesOnce, HasOneInput, IsOther, names_in};
 ghost use Rattle.command_lines.specs.Dimensions.{AreDimensions, HasDimensions};
 
-use crate::asked::CommandLine;
+use crate::asked::{Asked, CommandLine, STANDARD_INPUT};
 use crate::declared::metaplay;
 use clap::error::ErrorKind;
 use clap::{ArgMatches, Error};
 use mapping::MAX_SURFACE_SIDE;
-use std::alloc::Global;
+use std::alloc::{AllocError, Global};
 
 /// Parses the words of a command line, the program's name first, with `clap`. The error contains the text to show to
 /// the user; help is an error too. If the words are right for a command, parsing can fail only because an allocation
 /// failed.
-pub fn line<'a>(alloc: Global, words: &'a [String]) -> Result<CommandLine<'a>, Error>
-    ensures dimensions { IfOk result HasDimensions }
-    ensures asked { IfOk result (IsAskedByWords (texts_of words.entry.now)) }
+pub fn line<'a>(alloc: Global, words: &'a [String]) -> Result<Asked<'a>, Error>
+    ensures valid { IfOk result IsValid }
+    ensures asked { IfOk result (IsAskedFor (texts_of words.entry.now)) }
     ensures plain { IfOk result (HasPlainWords (texts_of words.entry.now)) }
-    ensures taken { IfErr result (λ e. AreRightWords (texts_of words.entry.now) → kind_of e ≡ ErrorKind.OutOfMemory) }
+    ensures taken { IfErr result (λ e. AreCommandWords (texts_of words.entry.now) → kind_of e ≡ ErrorKind.OutOfMemory) }
 {
+    count_law(words);
     let mut command = metaplay(alloc)?;
     let matches = command.try_get_matches_from_mut(words)?;
-    match asked(&matches) {
-        Some(line) => Ok(line),
-        None => Err(command.error(ErrorKind::InvalidValue, "no such command")?),
+    match asked(alloc, &matches)? {
+        Some(asked) => Ok(asked),
+        None => {
+            let why = "standard input was given more than once";
+            Err(command.error(ErrorKind::ArgumentConflict, why)?)
+        }
     }
 }
 
-/// The command that was found, if its numbers are in range.
-fn asked<'a>(matches: &ArgMatches<'a>) -> Option<CommandLine<'a>>
+/// `clap` counts the words of `info` in a `usize`.
+fn count_law(words: &[String])
+    ensures { length words.now ≤ usize_max }
+{
+    let _ = words.len();
+}
+
+/// What was found, if its numbers are in range, and if at most one of its names is the word for standard input.
+fn asked<'a>(alloc: Global, matches: &ArgMatches<'a>) -> Result<Option<Asked<'a>>, AllocError>
+    ensures valid { IfOk result (λ asked. IfSome asked IsValid) }
+    ensures asked { IfOk result (λ asked. IfSome asked (IsFound (subcommand_rows_of matches.now))) }
+    ensures command_taken { IfOk result (λ asked. IsRightCommand (subcommand_rows_of matches.now) → IsOther (codes "info") (subcommand_rows_of matches.now) → IsSome asked) }
+    ensures info_taken { IfOk result (λ asked. AsksInfoOnce (subcommand_rows_of matches.now) → IsSome asked) }
+{
+    if let Some(given) = matches.subcommand_matches("info") {
+        return Ok(names_of(alloc, given)?.map(Asked::Info));
+    }
+    Ok(asked_command(matches).map(Asked::Command))
+}
+
+/// The files' names, if at most one of them is the word for standard input.
+fn names_of<'a>(alloc: Global, given: &ArgMatches<'a>) -> Result<Option<Vec<&'a str>>, AllocError>
+    ensures given { IfOk result (λ given_names. IfSome given_names (λ names. all_of (codes "FILE") (rows_of (found_of given.now)) ≡ Some (names_in names.items))) }
+    ensures once { IfOk result (λ given_names. IfSome given_names (λ names. HasOneInput (names_in names.items))) }
+    ensures taken { IfOk result (λ given_names. GivesNamesOnce (rows_of (found_of given.now)) → IsSome given_names) }
+{
+    let Some(names) = given.get_strs("FILE") else {
+        return Ok(None);
+    };
+    if inputs_in(names) > 1 {
+        return Ok(None);
+    }
+    Ok(Some(names.to_vec(alloc)?))
+}
+
+/// How many of the names are the word for standard input.
+fn inputs_in(names: &[&str]) -> usize
+    ensures { result ≡ count_by (λ name. bytes_eq name (codes "stdin")) (names_in names.now) }
+{
+    names.iter().filter(|name| **name == STANDARD_INPUT).count()
+}
+
+/// The command on one file that was found, if its numbers are in range.
+fn asked_command<'a>(matches: &ArgMatches<'a>) -> Option<CommandLine<'a>>
     ensures dimensions { IfSome result HasDimensions }
     ensures asked { IfSome result (IsAskedBy (subcommand_rows_of matches.now)) }
-    ensures taken { IsRightCommand (subcommand_rows_of matches.now) → IsSome result }
+    ensures taken { IsRightCommand (subcommand_rows_of matches.now) → IsOther (codes "info") (subcommand_rows_of matches.now) → IsSome result }
 {
     if let Some(given) = matches.subcommand_matches("show") {
         return asked_show(given);

@@ -2,8 +2,8 @@
 
 ghost use Rattle.std.specs.Prelude.{◌≡◌, IfOk, false};
 ghost use Rattle.clap.specs.Words.{app_of, rule_of};
-ghost use Rattle.command_lines.specs.CommandLine.{check_app, file_app, list_app, metaplay_app, name_rule, over_app};
-ghost use Rattle.command_lines.specs.CommandLine.{bands_rule, play_app, prepare_app, show_app, side_rule};
+ghost use Rattle.command_lines.specs.CommandLine.{check_app, file_app, info_app, list_app, metaplay_app, name_rule, over_app};
+ghost use Rattle.command_lines.specs.CommandLine.{bands_rule, files_rule, play_app, prepare_app, show_app, side_rule};
 ghost use Rattle.command_lines.specs.Apps.{AddsDimensions, IsLocalApp};
 
 use clap::{Arg, ArgAction, Command, value_parser};
@@ -29,20 +29,22 @@ const GUIDE: &str = "Examples:
   metaplay play drawing.wmf drawing.cert 400 300 > drawing.ppm
   metaplay over drawing.wmf drawing.cert page.ppm > printed.ppm
   metaplay list drawing.wmf
+  metaplay info drawing.wmf other.emf
 
-FILE may be the word stdin, for standard input. Images are P6 (ppm(5)), and the
-report of check is one line of JSON.
+FILE may be the word stdin, for standard input. Images are P6 (ppm(5)). The
+report of check, and what info writes about a file, is one line of JSON.
 
 Exit status:
   0  done
   1  the file, the certificate or the image was rejected, or the surface is
-     larger than the bound; or the records that list printed don't end properly
+     larger than the bound; or the records that list printed don't end properly;
+     or a file of info doesn't play
   2  wrong usage, or help
   3  an input or an output failed, or an input is longer than 268,435,456 bytes
   4  out of memory
 
-The fault is on standard error; check and list print it on standard output.
-docs/FAULTS.md explains each fault and what to do about it.";
+The fault is on standard error; check, list and info print it on standard
+output. docs/FAULTS.md explains each fault and what to do about it.";
 
 /// The program's command line.
 pub(crate) fn metaplay<'a>(alloc: Global) -> Result<Command<'a>, AllocError>
@@ -54,6 +56,7 @@ pub(crate) fn metaplay<'a>(alloc: Global) -> Result<Command<'a>, AllocError>
     let play = play(alloc)?;
     let over = over(alloc)?;
     let list = list(alloc)?;
+    let info = info(alloc)?;
     Command::new(alloc, "metaplay")
         .bin_name("metaplay")?
         .about(ABOUT)
@@ -64,7 +67,8 @@ pub(crate) fn metaplay<'a>(alloc: Global) -> Result<Command<'a>, AllocError>
         .subcommand(check)?
         .subcommand(play)?
         .subcommand(over)?
-        .subcommand(list)
+        .subcommand(list)?
+        .subcommand(info)
 }
 
 /// The command `show`.
@@ -128,6 +132,15 @@ fn list<'a>(alloc: Global) -> Result<Command<'a>, AllocError>
     of_file(alloc, "list", about)
 }
 
+/// The command `info`.
+fn info<'a>(alloc: Global) -> Result<Command<'a>, AllocError>
+    ensures { IfOk result (IsLocalApp info_app) }
+{
+    Command::new(alloc, "info")
+        .about("Writes one line of JSON about each metafile")
+        .arg(files(alloc))
+}
+
 /// A command with a metafile.
 fn of_file<'a>(alloc: Global, command: &'a str, about: &'a str) -> Result<Command<'a>, AllocError>
     ensures { IfOk result (IsLocalApp (file_app command.entry.now)) }
@@ -156,6 +169,18 @@ fn name<'a>(alloc: Global, id: &'a str, help: &'a str) -> Arg<'a>
         .required(true)
         .action(ArgAction::Set)
         .help(help)
+}
+
+/// The names of one or more files.
+fn files<'a>(alloc: Global) -> Arg<'a>
+    ensures rule { rule_of result ≡ files_rule }
+    ensures local { result.global ≡ false }
+{
+    Arg::new(alloc, "FILE")
+        .required(true)
+        .num_args(1..)
+        .action(ArgAction::Append)
+        .help("The metafiles; one may be the word stdin")
 }
 
 /// The option for the number of rows in a band.

@@ -1,4 +1,6 @@
 pub mod FailureLemmas
+pub mod FileLineLemmas
+pub mod InfoLineLemmas
 pub mod LineLemmas
 pub mod ListLemmas
 pub mod PlayLemmas

@@ -4,10 +4,13 @@ use Rattle.std.specs.Io.KnownBytes.{Keeps}
 use Rattle.clap.specs.Words.{Text}
 use Rattle.command_lines.specs.CommandLine.{HoldsOfAsked, IsAskedByWords}
 use Rattle.commands.specs.Ends.{PrintsBy}
-use Rattle.commands.specs.Lines.{ErrBy, ErrOfSome, ErrOfWords, IsInput, LineWrites, OutBy, OutOfSome, OutOfWords, PreparesNamedFile, task_of}
+use Rattle.commands.specs.InfoLines.{InfoPrints, InfoWrites}
+use Rattle.commands.specs.Inputs.{IsInput}
+use Rattle.commands.specs.Lines.{ErrBy, ErrOfSome, ErrOfWords, HoldsOfAny, HoldsOfWords, LineWrites, OutBy, OutOfSome, OutOfWords, PreparesNamedFile, task_of}
 use Rattle.commands.specs.Faults.{input_end, fault_text}
 use Rattle.commands.specs.Report.{Reports, Printed}
-use Rattle.command_lines.specs.Dimensions.{HasDimensions, HoldsOfSome, file_of}
+use Rattle.command_lines.specs.Dimensions.{HasDimensions, file_of}
+use Rattle.command_lines.specs.InfoWords.{AsksInfoByWords, HasOneInput}
 use Rattle.commands.specs.declared.command_end.CommandEnd.{CommandEnd}
 use Rattle.commands.specs.declared.command_end.CommandEnd.TheVariants as end
 use Rattle.command_lines.specs.declared.asked.CommandLine.{CommandLine}
@@ -61,18 +64,18 @@ unread_done fault.OutOfMemory e P is done = cc
 
 module _ (words : List Text) (line : CommandLine) (input : Option (List ℕ)) (dimensions : HasDimensions line) (asked : IsAskedByWords words line) where
   pub out_of_line : (e : CommandEnd) (old new : Option (List ℕ)) → OutBy e line input old new → OutOfWords e words input old new
-  out_of_line end.Done old new fact = record { line = line; dimensions = dimensions; asked = asked; fact = fact }
-  out_of_line end.Rejected old new fact = record { line = line; dimensions = dimensions; asked = asked; fact = fact }
-  out_of_line end.CannotWrite old new fact = record { line = line; dimensions = dimensions; asked = asked; fact = fact }
-  out_of_line end.CannotRead old new fact = record { line = line; dimensions = dimensions; asked = asked; fact = fact }
-  out_of_line end.OutOfMemory old new fact = fact
+  out_of_line end.Done old new fact = inl (record { line = line; dimensions = dimensions; asked = asked; fact = fact })
+  out_of_line end.Rejected old new fact = inl (record { line = line; dimensions = dimensions; asked = asked; fact = fact })
+  out_of_line end.CannotWrite old new fact = inl (record { line = line; dimensions = dimensions; asked = asked; fact = fact })
+  out_of_line end.CannotRead old new fact = inl (record { line = line; dimensions = dimensions; asked = asked; fact = fact })
+  out_of_line end.OutOfMemory old new fact = inl fact
   out_of_line end.WrongUsage old new fact = tt
 
   pub err_of_line : (e : CommandEnd) (printed : Printed) (old new : Option (List ℕ)) → ErrBy e line input printed old new → ErrOfWords e words input printed old new
-  err_of_line end.Done printed old new fact = record { line = line; dimensions = dimensions; asked = asked; fact = fact }
-  err_of_line end.Rejected printed old new fact = record { line = line; dimensions = dimensions; asked = asked; fact = fact }
-  err_of_line end.CannotWrite printed old new fact = record { line = line; dimensions = dimensions; asked = asked; fact = fact }
-  err_of_line end.CannotRead printed old new fact = record { line = line; dimensions = dimensions; asked = asked; fact = fact }
+  err_of_line end.Done printed old new fact = inl (record { line = line; dimensions = dimensions; asked = asked; fact = fact })
+  err_of_line end.Rejected printed old new fact = inl (record { line = line; dimensions = dimensions; asked = asked; fact = fact })
+  err_of_line end.CannotWrite printed old new fact = inl (record { line = line; dimensions = dimensions; asked = asked; fact = fact })
+  err_of_line end.CannotRead printed old new fact = inl (record { line = line; dimensions = dimensions; asked = asked; fact = fact })
   err_of_line end.OutOfMemory printed old new fact = fact
   err_of_line end.WrongUsage printed old new fact = tt
 
@@ -93,13 +96,44 @@ module _ (words : List Text) (line : CommandLine) (input : Option (List ℕ)) (d
   usage_unwritten end.CannotRead old new fact is = absurd cc
   usage_unwritten end.OutOfMemory old new fact is = absurd cc
 
--- what holds for a parsed command line holds for one that the words give
-pub holds_of_line : (words : List Text) (line : CommandLine) (holds : CommandLine → Type 0) → HasDimensions line → IsAskedByWords words line → holds line → HoldsOfAsked words holds
-holds_of_line words line holds dimensions asked fact = record { line = line; dimensions = dimensions; asked = asked; fact = fact }
+-- what `info` writes and reports for names that the words give it
+module _ (words names : List Text) (input : Option (List ℕ)) (once : HasOneInput names) (asked : AsksInfoByWords words names) where
+  pub out_of_names : (e : CommandEnd) (old new : Option (List ℕ)) → InfoWrites e names input old new → OutOfWords e words input old new
+  out_of_names end.Done old new fact = inr (record { names = names; once = once; asked = asked; fact = fact })
+  out_of_names end.Rejected old new fact = inr (record { names = names; once = once; asked = asked; fact = fact })
+  out_of_names end.CannotWrite old new fact = inr (record { names = names; once = once; asked = asked; fact = fact })
+  out_of_names end.CannotRead old new fact = inr (record { names = names; once = once; asked = asked; fact = fact })
+  out_of_names end.OutOfMemory old new fact = inr (record { names = names; once = once; asked = asked; fact = fact })
+  out_of_names end.WrongUsage old new fact = tt
 
--- what holds for a parsed command line holds for some command line
-pub holds_of_some : (words : List Text) (holds : CommandLine → Type 0) → HoldsOfAsked words holds → HoldsOfSome holds
-holds_of_some words holds asked = record { line = asked.line; dimensions = asked.dimensions; fact = asked.fact }
+  pub err_of_names : (e : CommandEnd) (printed : Printed) (old new : Option (List ℕ)) → InfoPrints e printed old new → ErrOfWords e words input printed old new
+  err_of_names end.Done printed old new fact = inr (record { names = names; once = once; asked = asked; fact = fact })
+  err_of_names end.Rejected printed old new fact = inr (record { names = names; once = once; asked = asked; fact = fact })
+  err_of_names end.CannotWrite printed old new fact = inr (record { names = names; once = once; asked = asked; fact = fact })
+  err_of_names end.CannotRead printed old new fact = inr (record { names = names; once = once; asked = asked; fact = fact })
+  err_of_names end.OutOfMemory printed old new fact = fact
+  err_of_names end.WrongUsage printed old new fact = tt
+
+-- information is never wrong usage
+pub never_usage : (e : CommandEnd) (names : List Text) (input old new : Option (List ℕ)) (P : Type 0) → InfoWrites e names input old new → e ≡ end.WrongUsage → P
+never_usage end.WrongUsage names input old new P fact is = absurd fact
+never_usage end.Done names input old new P fact is = absurd cc
+never_usage end.Rejected names input old new P fact is = absurd cc
+never_usage end.CannotWrite names input old new P fact is = absurd cc
+never_usage end.CannotRead names input old new P fact is = absurd cc
+never_usage end.OutOfMemory names input old new P fact is = absurd cc
+
+-- what holds for a parsed command line, or for names, holds for words that give them
+pub holds_of_line : (words : List Text) (line : CommandLine) (holds : CommandLine → Type 0) (of_names : List Text → Type 0) → HasDimensions line → IsAskedByWords words line → holds line → HoldsOfWords words holds of_names
+holds_of_line words line holds of_names dimensions asked fact = inl (record { line = line; dimensions = dimensions; asked = asked; fact = fact })
+
+pub holds_of_names : (words names : List Text) (of_line : CommandLine → Type 0) (holds : List Text → Type 0) → HasOneInput names → AsksInfoByWords words names → holds names → HoldsOfWords words of_line holds
+holds_of_names words names of_line holds once asked fact = inr (record { names = names; once = once; asked = asked; fact = fact })
+
+-- what holds for what the words ask for holds for some command
+pub holds_of_some : (words : List Text) (of_line : CommandLine → Type 0) (of_names : List Text → Type 0) → HoldsOfWords words of_line of_names → HoldsOfAny of_line of_names
+holds_of_some words of_line of_names (inl asked) = inl (record { line = asked.line; dimensions = asked.dimensions; fact = asked.fact })
+holds_of_some words of_line of_names (inr asked) = inr (record { names = asked.names; once = asked.once; fact = asked.fact })
 
 -- wrong usage and out of memory aren't failed outputs, and the work isn't done
 pub usage_failed : (e : CommandEnd) (P : Type 0) → (e ≡ end.WrongUsage ⊎ e ≡ end.OutOfMemory) → e ≡ end.CannotWrite → P
@@ -110,19 +144,20 @@ pub usage_done : (e : CommandEnd) (P : Type 0) → (e ≡ end.WrongUsage ⊎ e �
 usage_done e P (inl wrong) done = cc
 usage_done e P (inr memory) done = cc
 
--- what the words write is what some command line writes
+-- what the words write is what some words write
 pub out_of_asked : (words : List Text) (input : Option (List ℕ)) (e : CommandEnd) (old new : Option (List ℕ)) → OutOfWords e words input old new → OutOfSome e input old new
-out_of_asked words input end.Done old new asked = record { line = asked.line; dimensions = asked.dimensions; fact = asked.fact }
-out_of_asked words input end.Rejected old new asked = record { line = asked.line; dimensions = asked.dimensions; fact = asked.fact }
-out_of_asked words input end.CannotWrite old new asked = record { line = asked.line; dimensions = asked.dimensions; fact = asked.fact }
-out_of_asked words input end.CannotRead old new asked = record { line = asked.line; dimensions = asked.dimensions; fact = asked.fact }
-out_of_asked words input end.OutOfMemory old new asked = asked
+out_of_asked words input end.Done old new asked = holds_of_some words _ _ asked
+out_of_asked words input end.Rejected old new asked = holds_of_some words _ _ asked
+out_of_asked words input end.CannotWrite old new asked = holds_of_some words _ _ asked
+out_of_asked words input end.CannotRead old new asked = holds_of_some words _ _ asked
+out_of_asked words input end.OutOfMemory old new (inl keeps) = inl keeps
+out_of_asked words input end.OutOfMemory old new (inr asked) = inr (record { names = asked.names; once = asked.once; fact = asked.fact })
 out_of_asked words input end.WrongUsage old new asked = asked
 
 pub err_of_asked : (words : List Text) (input : Option (List ℕ)) (e : CommandEnd) (printed : Printed) (old new : Option (List ℕ)) → ErrOfWords e words input printed old new → ErrOfSome e input printed old new
-err_of_asked words input end.Done printed old new asked = record { line = asked.line; dimensions = asked.dimensions; fact = asked.fact }
-err_of_asked words input end.Rejected printed old new asked = record { line = asked.line; dimensions = asked.dimensions; fact = asked.fact }
-err_of_asked words input end.CannotWrite printed old new asked = record { line = asked.line; dimensions = asked.dimensions; fact = asked.fact }
-err_of_asked words input end.CannotRead printed old new asked = record { line = asked.line; dimensions = asked.dimensions; fact = asked.fact }
+err_of_asked words input end.Done printed old new asked = holds_of_some words _ _ asked
+err_of_asked words input end.Rejected printed old new asked = holds_of_some words _ _ asked
+err_of_asked words input end.CannotWrite printed old new asked = holds_of_some words _ _ asked
+err_of_asked words input end.CannotRead printed old new asked = holds_of_some words _ _ asked
 err_of_asked words input end.OutOfMemory printed old new asked = asked
 err_of_asked words input end.WrongUsage printed old new asked = asked

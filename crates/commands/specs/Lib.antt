@@ -4,6 +4,8 @@ pub mod Ends
 pub mod Failures
 pub mod Faults
 pub mod Images
+pub mod InfoLines
+pub mod Inputs
 pub mod Lines
 pub mod Listings
 pub mod Outputs

@@ -1,10 +1,13 @@
 -- What the command of a command line writes to its streams.
-use Rattle.std.specs.Prelude.{◌≡◌, ℕ, List, Option, IfSome, codes, String, ⊤}
+use Rattle.std.specs.Prelude.{◌≡◌, ◌⊎◌, ℕ, List, Option, codes, String, ⊤}
 use Rattle.std.specs.Io.KnownBytes.{Keeps}
 use Rattle.clap.specs.Words.{Text}
 use Rattle.std.specs.declared.alloc.Global.{Global}
 use Rattle.command_lines.specs.CommandLine.{HoldsOfAsked, texts_of}
+use Rattle.command_lines.specs.InfoWords.{AreCommandWords, HoldsOfNames, HoldsOfSomeNames}
 use Rattle.commands.specs.Ends.{PrintsBy, WritesBy}
+use Rattle.commands.specs.InfoLines.{InfoPrints, InfoWrites}
+use Rattle.commands.specs.Inputs.{IsInput, standard_input}
 use Rattle.commands.specs.Report.{Reports, PrintsNothing, Printed}
 use Rattle.command_lines.specs.Dimensions.{HoldsOfSome, file_of}
 use Rattle.commands.specs.Tasks.{Task, check, list, over, play, prepare, show}
@@ -14,15 +17,6 @@ use Rattle.commands.specs.declared.command_end.CommandEnd.TheVariants as end
 use Rattle.command_lines.specs.declared.asked.CommandLine.{CommandLine}
 use Rattle.command_lines.specs.declared.asked.CommandLine.TheVariants.{Check, List as ListLine, Over, Play, Prepare, Show}
 use Rattle.commands.specs.declared.inputs.Inputs.{Inputs}
-
--- the word that stands for standard input
-abbrev pub standard_input : List ℕ
-standard_input = codes "stdin"
-
--- if the name is `stdin` and the bytes of standard input are known, these are the bytes; a named file can have any
--- bytes
-abbrev pub IsInput : List ℕ → Option (List ℕ) → List ℕ → Type 0
-IsInput name input bytes = name ≡ standard_input → IfSome input (λ all. bytes ≡ all)
 
 -- a certificate is prepared of a named file
 abbrev pub PreparesNamedFile : CommandLine → Type 0
@@ -79,29 +73,45 @@ ErrBy end.CannotRead line input printed old new = Reports printed old new (codes
 ErrBy end.OutOfMemory line input printed old new = Reports printed old new (codes "OutOfMemory")
 ErrBy end.WrongUsage line input printed old new = PreparesNamedFile line × Reports printed old new (codes "OUT is FILE")
 
--- What the program writes to standard output for its words: anything if they are wrong usage, otherwise what a command
--- line that they give writes.
+-- something holds for a command on one file, or for the names of files whose information is asked for
+abbrev pub HoldsOfWords : List Text → (CommandLine → Type 0) → (List Text → Type 0) → Type 0
+HoldsOfWords words of_line of_names = HoldsOfAsked words of_line ⊎ HoldsOfNames words of_names
+
+abbrev pub HoldsOfAny : (CommandLine → Type 0) → (List Text → Type 0) → Type 0
+HoldsOfAny of_line of_names = HoldsOfSome of_line ⊎ HoldsOfSomeNames of_names
+
+-- What the program writes to standard output for its words: anything if they are wrong usage, otherwise what the
+-- command that they ask for writes. If an allocation failed, only `info` may have written something.
 abbrev pub OutOfWords : CommandEnd → List Text → Option (List ℕ) → Option (List ℕ) → Option (List ℕ) → Type 0
 OutOfWords end.WrongUsage words input old new = ⊤
-OutOfWords end.OutOfMemory words input old new = Keeps old new
-OutOfWords end words input old new = HoldsOfAsked words (λ line. OutBy end line input old new)
+OutOfWords end.OutOfMemory words input old new = Keeps old new ⊎ HoldsOfNames words (λ names. InfoWrites end.OutOfMemory names input old new)
+OutOfWords end words input old new = HoldsOfWords words (λ line. OutBy end line input old new) (λ names. InfoWrites end names input old new)
 
 -- What the program reports on standard error for its words.
 abbrev pub ErrOfWords : CommandEnd → List Text → Option (List ℕ) → Printed → Option (List ℕ) → Option (List ℕ) → Type 0
 ErrOfWords end.WrongUsage words input printed old new = ⊤
 ErrOfWords end.OutOfMemory words input printed old new = Reports printed old new (codes "OutOfMemory")
-ErrOfWords end words input printed old new = HoldsOfAsked words (λ line. ErrBy end line input printed old new)
+ErrOfWords end words input printed old new = HoldsOfWords words (λ line. ErrBy end line input printed old new) (λ names. InfoPrints end printed old new)
 
--- what the program writes to standard output, or reports on standard error, for some command line
+-- what the program writes to standard output, or reports on standard error, for some words
 abbrev pub OutOfSome : CommandEnd → Option (List ℕ) → Option (List ℕ) → Option (List ℕ) → Type 0
 OutOfSome end.WrongUsage input old new = ⊤
-OutOfSome end.OutOfMemory input old new = Keeps old new
-OutOfSome end input old new = HoldsOfSome (λ line. OutBy end line input old new)
+OutOfSome end.OutOfMemory input old new = Keeps old new ⊎ HoldsOfSomeNames (λ names. InfoWrites end.OutOfMemory names input old new)
+OutOfSome end input old new = HoldsOfAny (λ line. OutBy end line input old new) (λ names. InfoWrites end names input old new)
 
 abbrev pub ErrOfSome : CommandEnd → Option (List ℕ) → Printed → Option (List ℕ) → Option (List ℕ) → Type 0
 ErrOfSome end.WrongUsage input printed old new = ⊤
 ErrOfSome end.OutOfMemory input printed old new = Reports printed old new (codes "OutOfMemory")
-ErrOfSome end input printed old new = HoldsOfSome (λ line. ErrBy end line input printed old new)
+ErrOfSome end input printed old new = HoldsOfAny (λ line. ErrBy end line input printed old new) (λ names. InfoPrints end printed old new)
+
+-- the words prepare a certificate of a named file
+abbrev pub PreparesNamed : List (String Global) → Type 0
+PreparesNamed words = HoldsOfAsked (texts_of words) PreparesNamedFile
+
+-- words that are right for a command are wrong usage
+pub record RejectsRight (words : List (String Global)) (answer : Completion) : Type 0 where
+  pub wrong : answer.end ≡ end.WrongUsage
+  pub right : AreCommandWords (texts_of words)
 
 module _ {W : Type 0} where
   -- what a task, a command line, given words, or some words write to a writer with these contents
@@ -133,10 +143,9 @@ module _ {W : Type 0} where
   abbrev pub PrintsSome : Option (List ℕ) → Completion → (W → Option (List ℕ)) → W → W → Type 0
   PrintsSome input answer contents old new = ErrOfSome answer.end input answer.printed (contents old) (contents new)
 
-  -- the words prepare a certificate of a named file, and it is reported that OUT is that file
-  abbrev pub ReportsSameFile : List (String Global) → Completion → (W → Option (List ℕ)) → W → W → Type 0
-  ReportsSameFile words answer contents old new =
-      HoldsOfAsked (texts_of words) PreparesNamedFile × Reports answer.printed (contents old) (contents new) (codes "OUT is FILE")
+  -- it is reported that OUT is FILE
+  abbrev pub ReportsSameFile : Completion → (W → Option (List ℕ)) → W → W → Type 0
+  ReportsSameFile answer contents old new = Reports answer.printed (contents old) (contents new) (codes "OUT is FILE")
 
   -- it is reported that an allocation failed
   abbrev pub PrintsMemory : Completion → (W → Option (List ℕ)) → W → W → Type 0

@@ -1,7 +1,8 @@
 -- When an output failed, and when it was flushed.
 use Rattle.std.specs.Prelude.{◌≡◌, ◌≢◌, ◌<◌, ℕ, Bool, List, OnErr, String, true}
 use Rattle.std.specs.declared.alloc.Global.{Global}
-use Rattle.command_lines.specs.CommandLine.{HoldsOfAsked, texts_of}
+use Rattle.command_lines.specs.CommandLine.{texts_of}
+use Rattle.commands.specs.Lines.{HoldsOfAny, HoldsOfWords}
 use Rattle.commands.specs.declared.command_end.Completion.{Completion}
 use Rattle.commands.specs.declared.command_end.CommandEnd.TheVariants as end
 use Rattle.command_lines.specs.declared.asked.CommandLine.{CommandLine}
@@ -22,12 +23,19 @@ module _ {W : Type 0} where
   OutputFlushed flushed old new (Prepare name width height output) = new ≡ old
   OutputFlushed flushed old new line = flushed new ≡ true
 
-  -- the output of the command failed, or was flushed, for a command line that the words give
+  -- the output of the command failed, or was flushed, for a command that the words ask for
   abbrev pub FailsAsked : List (String Global) → (W → ℕ) → W → W → Type 0
-  FailsAsked words count old new = HoldsOfAsked (texts_of words) (OutputFailed count old new)
+  FailsAsked words count old new = HoldsOfWords (texts_of words) (OutputFailed count old new) (λ names. Rises count old new)
 
   abbrev pub FlushesAsked : List (String Global) → (W → Bool) → W → W → Type 0
-  FlushesAsked words flushed old new = HoldsOfAsked (texts_of words) (OutputFlushed flushed old new)
+  FlushesAsked words flushed old new = HoldsOfWords (texts_of words) (OutputFlushed flushed old new) (λ names. flushed new ≡ true)
+
+  -- for some command
+  abbrev pub FailsSome : (W → ℕ) → W → W → Type 0
+  FailsSome count old new = HoldsOfAny (OutputFailed count old new) (λ names. Rises count old new)
+
+  abbrev pub FlushesSome : (W → Bool) → W → W → Type 0
+  FlushesSome flushed old new = HoldsOfAny (OutputFlushed flushed old new) (λ names. flushed new ≡ true)
 
   -- unless the command ends with its usage, the message on standard error can be incomplete only because that writer
   -- failed

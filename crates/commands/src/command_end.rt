@@ -21,7 +21,19 @@ pub enum CommandEnd {
 
 impl CommandEnd {
     ghost use Rattle.std.specs.Prelude.{◌≡◌};
+    ghost use Rattle.commands.specs.InfoLines.{worse};
     ghost use Rattle.commands.specs.Statuses.{status_of};
+
+    /// The end with the higher status, or this one if both have the same.
+    pub(crate) fn worse(self, other: CommandEnd) -> CommandEnd
+        ensures { result ≡ worse self other }
+    {
+        if self.status() < other.status() {
+            other
+        } else {
+            self
+        }
+    }
 
     /// The program's status, from 0 to 4.
     pub fn status(self) -> u8

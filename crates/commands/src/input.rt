@@ -3,9 +3,10 @@
 ghost use Rattle.std.specs.Prelude.{◌≡◌, ◌≤◌, ◌<◌, ◌↔◌, IfOk, IfSome, IsErr, OnOk, OnErr, length, vec_len};
 ghost use Rattle.std.specs.IoError.{error_kind};
 ghost use Rattle.std.specs.Io.KnownBytes.{IsAtEnd};
-ghost use Rattle.commands.specs.Faults.{fault_text};
+ghost use Rattle.commands.specs.Faults.{fault_text, input_end};
 ghost use Rattle.commands.specs.Reading.{ConsumesPrefix, input_limit};
 
+use crate::command_end::CommandEnd;
 use std::alloc::Global;
 use std::io;
 use std::io::{ErrorKind, Read};
@@ -30,6 +31,16 @@ pub enum InputFault {
 }
 
 impl InputFault {
+    /// How a command ends if an input wasn't read.
+    pub(crate) fn end(self) -> CommandEnd
+        ensures { result ≡ input_end self }
+    {
+        match self {
+            InputFault::CannotRead => CommandEnd::CannotRead,
+            InputFault::OutOfMemory => CommandEnd::OutOfMemory,
+        }
+    }
+
     /// The text for standard error.
     pub fn text(self) -> &'static str
         ensures text { result.now ≡ fault_text self }

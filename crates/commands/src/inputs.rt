@@ -2,19 +2,16 @@
 
 ghost use Rattle.std.specs.Prelude.{◌≡◌, ◌≢◌, ◌≤◌, IfOk, vec_len};
 ghost use Rattle.std.specs.Io.KnownBytes.{Keeps};
-ghost use Rattle.commands.specs.Lines.{IsInput, standard_input};
+ghost use Rattle.commands.specs.Inputs.{IsInput, standard_input};
 ghost use Rattle.commands.specs.Reading.{input_limit};
 ghost use Rattle.command_lines.specs.Dimensions.{file_of};
 
 use crate::input::{InputFault, read_input};
-use command_lines::CommandLine;
+use command_lines::{CommandLine, STANDARD_INPUT};
 use std::alloc::Global;
 use std::fs;
 use std::io::Read;
 use std::rt::Files;
-
-/// The word that stands for standard input.
-pub(crate) const STANDARD_INPUT: &str = "stdin";
 
 /// The bytes of a command's inputs.
 #[derive(Drop)]

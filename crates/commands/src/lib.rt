@@ -19,8 +19,10 @@
 //!   that the check reports. After a successful check, `play` can reject only a surface above the certificate's bound,
 //!   and `over` such a surface or an invalid image. Then nothing was written, except the report of `check`, and the
 //!   lines of `list` for records that break.
-//! - If an allocation fails, nothing was written. For `show`, `prepare` and `list` the file opens in that case, and for
-//!   `play` and `over` the certificate can be read too.
+//! - `info` writes one line about each file, in order, and ends as the worst of the files does. A line has what is
+//!   known of the file, or says why the file wasn't read (`info_command`).
+//! - If an allocation fails, nothing was written, except whole lines of `info`. For `show`, `prepare` and `list` the
+//!   file opens in that case, and for `play` and `over` the certificate can be read too.
 //! - If an output fails, a prefix of such a text was written. A command ends by `CannotWrite` only if its output
 //!   failed: the output counts its faults, and that count rose.
 //! - A command that is done has flushed its output after the last byte. So have `check` after the report of a
@@ -37,7 +39,9 @@ mod check;
 mod check_report;
 mod command_end;
 mod failure;
+mod file_line;
 mod image_output;
+mod info;
 mod input;
 mod inputs;
 mod list;
@@ -55,6 +59,7 @@ mod shown;
 
 pub use check::check_command;
 pub use command_end::{CommandEnd, Completion};
+pub use info::info_command;
 pub use input::{InputFault, read_input};
 pub use inputs::read_file;
 pub use list::list_command;

@@ -1,19 +1,20 @@
 //! The program: the command line, its inputs, and the command.
 
-ghost use Rattle.std.specs.Prelude.{◌≡◌, ◌≢◌, ◌⊎◌, ◌↔◌, ◌-◌, ◌^◌, ◌<◌, OnErr, codes, map, string_bytes};
+ghost use Rattle.std.specs.Prelude.{◌≡◌, ◌≢◌, ◌⊎◌, ◌↔◌, ◌-◌, ◌^◌, ◌<◌, OnErr, codes};
 ghost use Rattle.std.specs.Io.KnownBytes.{Keeps};
 ghost use Rattle.clap.specs.Words.{kind_of};
-ghost use Rattle.commands.specs.Outputs.{FailsAsked, FlushesAsked, IsUnreported, OutputFailed, OutputFlushed, Rises};
-ghost use Rattle.command_lines.specs.RightWords.{AreRightWords};
+ghost use Rattle.commands.specs.Outputs.{FailsAsked, FailsSome, FlushesAsked, FlushesSome, IsUnreported, OutputFailed, OutputFlushed, Rises};
 ghost use Rattle.commands.specs.Faults.{input_end, fault_text};
 ghost use Rattle.commands.specs.Lines.{TaskPrints, TaskWrites, PrintsAsked, PrintsLine, PrintsMemory, PrintsSome};
-ghost use Rattle.commands.specs.Lines.{ReportsSameFile};
-ghost use Rattle.commands.specs.Lines.{WritesAsked, WritesLine, WritesSome, standard_input};
+ghost use Rattle.commands.specs.Lines.{PreparesNamed, RejectsRight, ReportsSameFile};
+ghost use Rattle.commands.specs.Inputs.{standard_input};
+ghost use Rattle.commands.specs.Lines.{WritesAsked, WritesLine, WritesSome};
 ghost use Rattle.commands.specs.Report.{Reports};
-ghost use Rattle.command_lines.specs.Dimensions.{HasDimensions, HoldsOfSome, file_of};
+ghost use Rattle.command_lines.specs.Dimensions.{HasDimensions, file_of};
 
 use crate::check::check_command;
 use crate::command_end::{CommandEnd, Completion};
+use crate::info::info_command;
 use crate::input::InputFault;
 use crate::inputs::{Inputs, read_inputs};
 use crate::list::list_command;
@@ -26,7 +27,7 @@ use crate::show::show_command;
 use crate::shown::show_error;
 use canvas::FaultCount;
 use clap::error::ErrorKind;
-use command_lines::{CommandLine, line};
+use command_lines::{Asked, CommandLine, line};
 use std::alloc::Global;
 use std::env;
 use std::io::Read;
@@ -44,8 +45,8 @@ where
     ensures written { WritesSome (I.remaining input.old) result O.contents out.old out.new }
     ensures printed { PrintsSome (I.remaining input.old) result E.contents err.old err.new }
     ensures usage_unread { result.end ≡ CommandEnd.WrongUsage → Keeps (I.remaining input.old) (I.remaining input.new) }
-    ensures cannot_write { result.end ≡ CommandEnd.CannotWrite → HoldsOfSome (OutputFailed O.fault_count out.old out.new) }
-    ensures flushed { result.end ≡ CommandEnd.Done → HoldsOfSome (OutputFlushed O.is_flushed out.old out.new) }
+    ensures cannot_write { result.end ≡ CommandEnd.CannotWrite → FailsSome O.fault_count out.old out.new }
+    ensures flushed { result.end ≡ CommandEnd.Done → FlushesSome O.is_flushed out.old out.new }
     ensures unreported { IsUnreported result E.fault_count err.old err.new }
     ensures unshown { OnErr result.printed (Rises E.fault_count err.old err.new ⊎ Rises O.fault_count out.old out.new) }
 {
@@ -79,8 +80,9 @@ where
     requires capacity_err { E.fault_count err.old < 2 ^ 64 - 1 }
     ensures written { WritesAsked words.entry.now (I.remaining input.old) result O.contents out.old out.new }
     ensures printed { PrintsAsked words.entry.now (I.remaining input.old) result E.contents err.old err.new }
-    ensures usage_wrong { result.end ≡ CommandEnd.WrongUsage → AreRightWords (map string_bytes words.entry.now) → ReportsSameFile words.entry.now result E.contents err.old err.new }
-    ensures usage_unwritten { result.end ≡ CommandEnd.WrongUsage → AreRightWords (map string_bytes words.entry.now) → Keeps (O.contents out.old) (O.contents out.new) }
+    ensures usage_words { RejectsRight words.entry.now result → PreparesNamed words.entry.now }
+    ensures usage_wrong { RejectsRight words.entry.now result → ReportsSameFile result E.contents err.old err.new }
+    ensures usage_unwritten { RejectsRight words.entry.now result → Keeps (O.contents out.old) (O.contents out.new) }
     ensures usage_unread { result.end ≡ CommandEnd.WrongUsage → Keeps (I.remaining input.old) (I.remaining input.new) }
     ensures cannot_write { result.end ≡ CommandEnd.CannotWrite → FailsAsked words.entry.now O.fault_count out.old out.new }
     ensures flushed { result.end ≡ CommandEnd.Done → FlushesAsked words.entry.now O.is_flushed out.old out.new }
@@ -88,7 +90,8 @@ where
     ensures unshown { OnErr result.printed (Rises E.fault_count err.old err.new ⊎ Rises O.fault_count out.old out.new) }
 {
     match line(rt.alloc(), words) {
-        Ok(line) => perform(rt, line, input, out, err),
+        Ok(Asked::Command(line)) => perform(rt, line, input, out, err),
+        Ok(Asked::Info(names)) => info_command(rt, names.as_slice(), input, out, err),
         Err(error) => usage(&error, out, err),
     }
 }
@@ -200,12 +203,10 @@ pub fn no_input<E: FaultCount>(fault: InputFault, err: &mut E) -> Completion
     ensures line { Reports result.printed (E.contents err.old) (E.contents err.new) (fault_text fault) }
     ensures unreported { OnErr result.printed (E.fault_count err.old < E.fault_count err.new) }
 {
-    let printed = report(err, fault.text());
-    let end = match fault {
-        InputFault::CannotRead => CommandEnd::CannotRead,
-        InputFault::OutOfMemory => CommandEnd::OutOfMemory,
-    };
-    Completion { end, printed }
+    Completion {
+        end: fault.end(),
+        printed: report(err, fault.text()),
+    }
 }
 
 /// Shows the usage, or help if it was asked for, on the stream that `clap` chooses, and returns whether that writer

@@ -3,8 +3,7 @@
 ghost use Rattle.std.specs.Prelude.{◌≡◌, true};
 ghost use Rattle.commands.specs.Lines.{PreparesNamedFile};
 
-use crate::inputs::STANDARD_INPUT;
-use command_lines::CommandLine;
+use command_lines::{CommandLine, STANDARD_INPUT};
 use std::fs;
 use std::os::unix::fs::MetadataExt;
 use std::rt::Files;
