@@ -3,6 +3,7 @@ hour."""
 
 import os
 import pathlib
+import re
 import resource
 import shutil
 import signal
@@ -96,7 +97,7 @@ class Launcher(unittest.TestCase):
 
     def test_it_builds_once(self):
         err = self.is_run("first", ["low", "meta_main"])
-        self.assertIn("metaplay: low proved and built in 0 s (1 of 2); minutes so far 0, to come about", err)
+        self.assertRegex(err, r"metaplay: low proved and built in \d+ s \(1 of 2\); minutes so far 0, to come about")
         self.assertEqual(self.is_run("first", []), "")
         self.assertEqual(sorted(path.name for path in (self.root / "crates/meta_main/out").iterdir()), ["built.list", "built.sums", "lock", "meta_main"])
 
@@ -209,13 +210,17 @@ class Launcher(unittest.TestCase):
         (self.kit / "seconds").write_text("3")
         (self.kit / "says").write_text("so far: 7 of 9 functions\nso far: 8 of 9 functions\n")
         err = self.is_run("first", ["low", "meta_main"])
-        self.assertRegex(err, r"metaplay: proving low: [1-3] s, 8 of 9 functions; minutes so far 0\n")
+        self.assertRegex(err, r"metaplay: proving low: \d+ s, 8 of 9 functions; minutes so far 0\n")
 
     def test_the_time_to_come_is_estimated_by_the_table(self):
-        # The lowest crate takes a second or two, and the program 59 times as long.
+        # The lowest crate takes a second or more, and the program is said to take 59 times as long.
         self.write("launcher/seconds", "low 1\nmeta_main 59\n")
         (self.kit / "seconds").write_text("1.2")
-        self.assertRegex(self.is_run("first", ["low", "meta_main"]), r"low proved .*, to come about [12]\n")
+        start = time.monotonic()
+        err = self.is_run("first", ["low", "meta_main"])
+        seconds = time.monotonic() - start
+        minutes = int(re.search(r"low proved .*, to come about (\d+)\n", err)[1])
+        self.assertTrue(1 <= minutes <= seconds + 1, err)
         self.write("launcher/seconds", "other 1\n")
         self.write("crates/low/src/lib.rt", "changed\n")
         self.assertRegex(self.is_run("first", ["low", "meta_main"]), r"low proved .*, to come about 0\n")
