@@ -13,7 +13,7 @@ use Rattle.clap.specs.Words.{subcommand_of, takes}
 use Rattle.clap.proofs.OnLiterals.{clap_on_literals}
 use Rattle.command_lines.specs.CommandLine.{GivesAll, GivesSide, IsRightCommand, IsSideText, check_app, list_app, metaplay_app, over_app, play_app, prepare_app, show_app}
 use Rattle.command_lines.specs.InfoWords.{IsOther}
-use Rattle.command_lines.specs.RightWords.{AreOfKinds, AreRightWords, ArgumentKind, IsOfKind, bands, name, side, usages}
+use Rattle.command_lines.specs.RightWords.{AreOfKinds, AreRightWords, ArgumentKind, IsOfKind, bands, fit, name, side, usages}
 use Rattle.command_lines.proofs.KindLemmas.{kinds_end, horizontal_is, horizontal_kinds, rows_kinds}
 use Rattle.command_lines.proofs.SideLemmas.{no_minus, plain_side, side_passes}
 
@@ -70,7 +70,15 @@ show_taken file f wide w high h =
     of_usage (codes "show") show_app.top (name ∷ side ∷ side ∷ []) (file ∷ wide ∷ high ∷ []) (f, (w, (h, tt))) refl
     (λ program passes. ap (λ (b : Bool). b && true) passes) (λ program. refl)
     (ap₂ (λ (a b : Bool). ((a && true) && true) && ((b && true) && true)) (side_passes wide w) (side_passes high h))
-    (refl, (side_given _ (codes "W") wide refl w, (side_given _ (codes "H") high refl h, tt)))
+    (refl, (side_given _ (codes "W") wide refl w, (side_given _ (codes "H") high refl h, (tt, tt))))
+
+show_fit_taken : OfKinds (name ∷ side ∷ side ∷ fit ∷ []) (IsTaken (codes "show"))
+unfolding clap_on_literals
+show_fit_taken file f wide w high h word t =
+    of_usage (codes "show") show_app.top (name ∷ side ∷ side ∷ fit ∷ []) (file ∷ wide ∷ high ∷ word ∷ []) (f, (w, (h, (t, tt)))) refl
+    (λ program passes. ap (λ (b : Bool). b && true) passes) (λ program. refl)
+    (ap₂ (λ (a b : Bool). ((a && true) && ((((b && true) && true) && true) && true)) && true) (side_passes wide w) (side_passes high h))
+    (refl, (side_given _ (codes "W") wide refl w, (side_given _ (codes "H") high refl h, (tt, tt))))
 
 prepare_taken : OfKinds (name ∷ side ∷ side ∷ name ∷ []) (IsTaken (codes "prepare"))
 unfolding clap_on_literals
@@ -92,7 +100,15 @@ play_taken file f certificate c wide w high h =
     of_usage (codes "play") play_app.top (name ∷ name ∷ side ∷ side ∷ []) (file ∷ certificate ∷ wide ∷ high ∷ []) (f, (c, (w, (h, tt)))) refl
     (λ program passes. ap (λ (b : Bool). b && true) passes) (λ program. refl)
     (ap₂ (λ (a b : Bool). ((a && true) && true) && ((b && true) && true)) (side_passes wide w) (side_passes high h))
-    (refl, (refl, (side_given _ (codes "W") wide refl w, (side_given _ (codes "H") high refl h, ((λ some. let bad : false ≡ true = some in cc), tt)))))
+    (refl, (refl, (side_given _ (codes "W") wide refl w, (side_given _ (codes "H") high refl h, ((λ some. let bad : false ≡ true = some in cc), (tt, tt))))))
+
+play_fit_taken : OfKinds (name ∷ name ∷ side ∷ side ∷ fit ∷ []) (IsTaken (codes "play"))
+unfolding clap_on_literals
+play_fit_taken file f certificate c wide w high h word t =
+    of_usage (codes "play") play_app.top (name ∷ name ∷ side ∷ side ∷ fit ∷ []) (file ∷ certificate ∷ wide ∷ high ∷ word ∷ []) (f, (c, (w, (h, (t, tt))))) refl
+    (λ program passes. ap (λ (b : Bool). b && true) passes) (λ program. refl)
+    (ap₂ (λ (a b : Bool). ((a && true) && ((((b && true) && true) && true) && true)) && true) (side_passes wide w) (side_passes high h))
+    (refl, (refl, (side_given _ (codes "W") wide refl w, (side_given _ (codes "H") high refl h, ((λ some. let bad : false ≡ true = some in cc), (tt, tt))))))
 
 bands_taken : OfKinds (name ∷ name ∷ side ∷ side ∷ bands ∷ side ∷ []) (IsTaken (codes "play"))
 unfolding clap_on_literals
@@ -101,7 +117,25 @@ bands_taken file f certificate c wide w high h word b rows r =
     (λ program passes. ap (λ (b : Bool). b && true) passes) (λ program. refl)
     (ap₂ (λ (a b : Bool). ((a && true) && (((b && true) && true) && true)) && ((is_signed_in (pos 1) (pos surface_side_limit) rows && true) && true)) (side_passes wide w) (side_passes high h)
     ∙ ap (λ (b : Bool). (b && true) && true) (side_passes rows r))
-    (refl, (refl, (side_given _ (codes "W") wide refl w, (side_given _ (codes "H") high refl h, ((λ some. side_given _ (codes "ROWS") rows refl r), tt)))))
+    (refl, (refl, (side_given _ (codes "W") wide refl w, (side_given _ (codes "H") high refl h, ((λ some. side_given _ (codes "ROWS") rows refl r), (tt, tt))))))
+
+bands_fit_taken : OfKinds (name ∷ name ∷ side ∷ side ∷ bands ∷ side ∷ fit ∷ []) (IsTaken (codes "play"))
+unfolding clap_on_literals
+bands_fit_taken file f certificate c wide w high h word b rows r last t =
+    of_usage (codes "play") play_app.top (name ∷ name ∷ side ∷ side ∷ bands ∷ side ∷ fit ∷ []) (file ∷ certificate ∷ wide ∷ high ∷ word ∷ rows ∷ last ∷ []) (f, (c, (w, (h, (b, (r, (t, tt))))))) refl
+    (λ program passes. ap (λ (b : Bool). b && true) passes) (λ program. refl)
+    (ap₂ (λ (a b : Bool). ((a && true) && (((b && true) && true) && ((((is_signed_in (pos 1) (pos surface_side_limit) rows && true) && true) && true) && true))) && true) (side_passes wide w) (side_passes high h)
+    ∙ ap (λ (b : Bool). (((b && true) && true) && true) && true) (side_passes rows r))
+    (refl, (refl, (side_given _ (codes "W") wide refl w, (side_given _ (codes "H") high refl h, ((λ some. side_given _ (codes "ROWS") rows refl r), (tt, tt))))))
+
+fit_bands_taken : OfKinds (name ∷ name ∷ side ∷ side ∷ fit ∷ bands ∷ side ∷ []) (IsTaken (codes "play"))
+unfolding clap_on_literals
+fit_bands_taken file f certificate c wide w high h first t word b rows r =
+    of_usage (codes "play") play_app.top (name ∷ name ∷ side ∷ side ∷ fit ∷ bands ∷ side ∷ []) (file ∷ certificate ∷ wide ∷ high ∷ first ∷ word ∷ rows ∷ []) (f, (c, (w, (h, (t, (b, (r, tt))))))) refl
+    (λ program passes. ap (λ (b : Bool). b && true) passes) (λ program. refl)
+    (ap₂ (λ (a b : Bool). ((a && true) && ((((b && true) && true) && true) && true)) && ((is_signed_in (pos 1) (pos surface_side_limit) rows && true) && true)) (side_passes wide w) (side_passes high h)
+    ∙ ap (λ (b : Bool). (b && true) && true) (side_passes rows r))
+    (refl, (refl, (side_given _ (codes "W") wide refl w, (side_given _ (codes "H") high refl h, ((λ some. side_given _ (codes "ROWS") rows refl r), (tt, tt))))))
 
 over_taken : OfKinds (name ∷ name ∷ name ∷ []) (IsTaken (codes "over"))
 unfolding clap_on_literals
@@ -129,7 +163,8 @@ all_of holds (usage ∷ others) each = All-cons holds usage others each.0 (all_o
 
 -- every usage is accepted
 all_taken : All UsageIsTaken usages
-all_taken = all_of UsageIsTaken usages (show_taken, (prepare_taken, (check_taken, (play_taken, (bands_taken, (over_taken, (list_taken, tt)))))))
+all_taken = all_of UsageIsTaken usages
+    (show_taken, (show_fit_taken, (prepare_taken, (check_taken, (play_taken, (play_fit_taken, (bands_taken, (bands_fit_taken, (fit_bands_taken, (over_taken, (list_taken, tt)))))))))))
 
 -- the first byte of a command's name
 abbrev first_byte : Text → ℕ
@@ -145,7 +180,9 @@ abbrev BeginsOtherwise : Text × List ArgumentKind → Type 0
 BeginsOtherwise usage = are_apart (first_byte usage.0) (first_byte (codes "info"))
 
 none_is_info : All BeginsOtherwise usages
-none_is_info = all_of BeginsOtherwise usages ((λ e. omega (arith, e)), ((λ e. omega (arith, e)), ((λ e. omega (arith, e)), ((λ e. omega (arith, e)), ((λ e. omega (arith, e)), ((λ e. omega (arith, e)), ((λ e. omega (arith, e)), tt)))))))
+none_is_info = all_of BeginsOtherwise usages
+    ((λ e. omega (arith, e)), ((λ e. omega (arith, e)), ((λ e. omega (arith, e)), ((λ e. omega (arith, e)), ((λ e. omega (arith, e)), ((λ e. omega (arith, e)),
+    ((λ e. omega (arith, e)), ((λ e. omega (arith, e)), ((λ e. omega (arith, e)), ((λ e. omega (arith, e)), ((λ e. omega (arith, e)), tt)))))))))))
 
 is_taken : (words : List Text) (right : AreRightWords words) → IsTaken right.command right.arguments
 is_taken words right =

@@ -81,16 +81,21 @@ shown_rows program file wide high plain_file plain_wide plain_high =
     first_word program file wide high ∙ ap (λ (r : List Row). Some (codes "show", r)) (other_words file wide high plain_file plain_wide plain_high)
 
 given_words : (line : CommandLine) (program file wide high : Text) → IsPlainWord file → IsPlainWord wide → IsPlainWord high → IsAskedByWords (program ∷ codes "show" ∷ file ∷ wide ∷ high ∷ []) line → HasWords file wide high line
-given_words (Show name width height) program file wide high plain_file plain_wide plain_high asked =
+given_words (Show name width height fit) program file wide high plain_file plain_wide plain_high asked =
     let rows = shown_rows program file wide high plain_file plain_wide plain_high in
-    by_rows _ (given_all file wide high) asked.given file wide high name.now width height plain_wide plain_high rows refl refl refl asked.command asked.gives.0 asked.gives.1
+    let same = same_rows _ _ _ _ _ asked.command rows in
+    let unset : one_of (codes "fit") asked.given ≡ Some (codes "false") = ap (one_of (codes "fit")) same in
+    (
+      by_rows _ (given_all file wide high) asked.given file wide high name.now width height plain_wide plain_high rows refl refl refl asked.command asked.gives.0 asked.gives.1.0,
+      asked.gives.1.1.unset unset,
+    )
 given_words (Prepare name width height output) program file wide high plain_file plain_wide plain_high asked =
     let rows = shown_rows program file wide high plain_file plain_wide plain_high in
     let bad : is_byte 115 112 = one_name _ _ _ _ _ rows asked.command in absurd (omega (arith, bad))
 given_words (Check name certificate) program file wide high plain_file plain_wide plain_high asked =
     let rows = shown_rows program file wide high plain_file plain_wide plain_high in
     let bad : is_byte 115 99 = one_name _ _ _ _ _ rows asked.command in absurd (omega (arith, bad))
-given_words (Play name certificate width height bands) program file wide high plain_file plain_wide plain_high asked =
+given_words (Play name certificate width height bands fit) program file wide high plain_file plain_wide plain_high asked =
     let rows = shown_rows program file wide high plain_file plain_wide plain_high in
     let bad : is_byte 115 112 = one_name _ _ _ _ _ rows asked.command in absurd (omega (arith, bad))
 given_words (Over name certificate image) program file wide high plain_file plain_wide plain_high asked =

@@ -6,7 +6,7 @@ use Rattle.std.specs.Str.Parse.{IsNumeral, digits_value, without_leading_plus}
 use Rattle.std.specs.declared.alloc.Global.{Global}
 use Rattle.clap.specs.Lexer.{usize_max}
 use Rattle.clap.specs.Words.{App, Row, Rule, Shape, Text, first_of, new_app, new_rule, one_of, subcommand_of, with_rule, with_subcommand}
-use Rattle.clap.specs.declared.builder.ArgAction.TheVariants.{Append, Set}
+use Rattle.clap.specs.declared.builder.ArgAction.TheVariants.{Append, Set, SetTrue}
 use Rattle.clap.specs.declared.builder.value_parser.ValueParser.{ValueParser}
 use Rattle.clap.specs.declared.builder.value_parser.ValueParser.TheVariants.{Signed}
 use Rattle.command_lines.specs.Dimensions.{HasDimensions}
@@ -33,9 +33,13 @@ file_app name = with_rule (new_app name) (name_rule (codes "FILE"))
 abbrev pub with_dimensions : App → App
 with_dimensions app = with_rule (with_rule app (side_rule (codes "W"))) (side_rule (codes "H"))
 
--- show FILE W H
+-- --fit
+abbrev pub fit_rule : Rule
+fit_rule = record (new_rule (codes "fit")) { long = Some (codes "fit"); action = Some SetTrue }
+
+-- show FILE W H [--fit]
 abbrev pub show_app : App
-show_app = with_dimensions (file_app (codes "show"))
+show_app = with_rule (with_dimensions (file_app (codes "show"))) fit_rule
 
 -- prepare FILE W H OUT
 abbrev pub prepare_app : App
@@ -49,9 +53,9 @@ check_app = with_rule (file_app (codes "check")) (name_rule (codes "CERT"))
 abbrev pub bands_rule : Rule
 bands_rule = record (new_rule (codes "ROWS")) { long = Some (codes "bands"); action = Some Set; parser = Some (Signed (pos 1) (pos surface_side_limit)) }
 
--- play FILE CERT W H [--bands ROWS]
+-- play FILE CERT W H [--bands ROWS] [--fit]
 abbrev pub play_app : App
-play_app = with_rule (with_dimensions (with_rule (file_app (codes "play")) (name_rule (codes "CERT")))) bands_rule
+play_app = with_rule (with_rule (with_dimensions (with_rule (file_app (codes "play")) (name_rule (codes "CERT")))) bands_rule) fit_rule
 
 -- over FILE CERT IMAGE
 abbrev pub over_app : App
@@ -103,27 +107,35 @@ abbrev pub GivesBands : List Row → Option ℕ → Type 0
 GivesBands given None = IsSome (first_of (codes "ROWS") given) → ⊥
 GivesBands given (Some rows) = GivesNumber given (codes "ROWS") rows
 
+-- whether an option without a value was given: clap gives it the text `true` or `false`
+pub record GivesFlag (given : List Row) (id : Text) (flag : Bool) : Type 0 where
+  pub set : one_of id given ≡ Some (codes "true") → flag ≡ true
+  pub unset : one_of id given ≡ Some (codes "false") → flag ≡ false
+  pub missing : one_of id given ≡ None → flag ≡ false
+
 -- the argument with this id was given, as this text
 abbrev pub GivesName : List Row → Text → Text → Type 0
 GivesName given id name = first_of id given ≡ Some name
 
 -- the name of a command line's command
 abbrev pub command_name : CommandLine → Text
-command_name (Show file width height) = codes "show"
+command_name (Show file width height fit) = codes "show"
 command_name (Prepare file width height output) = codes "prepare"
 command_name (Check file certificate) = codes "check"
-command_name (Play file certificate width height bands) = codes "play"
+command_name (Play file certificate width height bands fit) = codes "play"
 command_name (Over file certificate image) = codes "over"
 command_name (ListLine file) = codes "list"
 
 -- a command line has the names and numbers of the given arguments
 abbrev pub HoldsWords : List Row → CommandLine → Type 0
-HoldsWords given (Show file width height) = GivesName given (codes "FILE") file.now × GivesDimensions given width height
+HoldsWords given (Show file width height fit) =
+    GivesName given (codes "FILE") file.now × GivesDimensions given width height × GivesFlag given (codes "fit") fit
 HoldsWords given (Prepare file width height output) =
     GivesName given (codes "FILE") file.now × GivesDimensions given width height × GivesName given (codes "OUT") output.now
 HoldsWords given (Check file certificate) = GivesName given (codes "FILE") file.now × GivesName given (codes "CERT") certificate.now
-HoldsWords given (Play file certificate width height bands) =
-    GivesName given (codes "FILE") file.now × GivesName given (codes "CERT") certificate.now × GivesDimensions given width height × GivesBands given bands
+HoldsWords given (Play file certificate width height bands fit) =
+    GivesName given (codes "FILE") file.now × GivesName given (codes "CERT") certificate.now × GivesDimensions given width height
+    × GivesBands given bands × GivesFlag given (codes "fit") fit
 HoldsWords given (Over file certificate image) =
     GivesName given (codes "FILE") file.now × GivesName given (codes "CERT") certificate.now × GivesName given (codes "IMAGE") image.now
 HoldsWords given (ListLine file) = GivesName given (codes "FILE") file.now
@@ -153,9 +165,9 @@ pub record AreOfWords (file wide high : Text) (name : Text) (width height : ℕ)
   pub wide_reads : width ≡ number_of wide
   pub high_reads : height ≡ number_of high
 
--- the command line is `show` with this file name and the numbers of these texts
+-- the command line is `show` with this file name and the numbers of these texts, without `--fit`
 abbrev pub HasWords : Text → Text → Text → CommandLine → Type 0
-HasWords file wide high (Show name width height) = AreOfWords file wide high name.now width height
+HasWords file wide high (Show name width height fit) = AreOfWords file wide high name.now width height × (fit ≡ false)
 HasWords file wide high line = ⊥
 
 -- the text is a decimal numeral from 1 to 8,192, without a sign
@@ -171,11 +183,12 @@ pub record GivesSide (given : List Row) (id : Text) : Type 0 where
   pub is_side : IsSideText text
 
 -- an argument was given as it should be: a text, or a numeral in range if a number is read from it; an optional
--- argument may be missing
+-- argument may be missing, and an option without a value is always right
 abbrev pub GivesRight : Bool → Option ValueParser → List Row → Text → Type 0
 GivesRight true None given id = IsSome (first_of id given)
 GivesRight true (Some parser) given id = GivesSide given id
-GivesRight false parser given id = IsSome (first_of id given) → GivesSide given id
+GivesRight false None given id = Unit {0}
+GivesRight false (Some parser) given id = IsSome (first_of id given) → GivesSide given id
 
 abbrev pub GivesArgument : Rule → List Row → Type 0
 GivesArgument rule given = GivesRight rule.required rule.parser given rule.id

@@ -6,10 +6,10 @@ use Rattle.command_lines.specs.declared.asked.CommandLine.TheVariants.{Check, Li
 
 -- the name of the metafile on the command line
 abbrev pub file_of : CommandLine → List ℕ
-file_of (Show file width height) = file.now
+file_of (Show file width height fit) = file.now
 file_of (Prepare file width height output) = file.now
 file_of (Check file certificate) = file.now
-file_of (Play file certificate width height bands) = file.now
+file_of (Play file certificate width height bands fit) = file.now
 file_of (Over file certificate image) = file.now
 file_of (ListLine file) = file.now
 
@@ -20,10 +20,10 @@ pub record AreDimensions (width height : ℕ) : Type 0 where
 
 -- the width and height on the command line are valid, and so is the number of rows in a band
 abbrev pub HasDimensions : CommandLine → Type 0
-HasDimensions (Show file width height) = AreDimensions width height
+HasDimensions (Show file width height fit) = AreDimensions width height
 HasDimensions (Prepare file width height output) = AreDimensions width height
 HasDimensions (Check file certificate) = Unit
-HasDimensions (Play file certificate width height bands) = AreDimensions width height × IfSome bands IsSurfaceSide
+HasDimensions (Play file certificate width height bands fit) = AreDimensions width height × IfSome bands IsSurfaceSide
 HasDimensions (Over file certificate image) = Unit
 HasDimensions (ListLine file) = Unit
 

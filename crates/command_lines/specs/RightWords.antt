@@ -4,11 +4,12 @@ use Rattle.std.specs.List.{Any}
 use Rattle.clap.specs.Words.{Text}
 use Rattle.command_lines.specs.CommandLine.{IsPlainWord, IsSideText}
 
--- the kinds of arguments: a file's name, a width or height, or the word for bands
+-- the kinds of arguments: a file's name, a width or height, or the word for bands or for the frame's proportion
 pub data ArgumentKind : Type 0 where
   name : ArgumentKind
   side : ArgumentKind
   bands : ArgumentKind
+  fit : ArgumentKind
 
 -- The word is of this kind: a name doesn't begin with a hyphen, and a width or height is a decimal numeral from 1 to
 -- 8,192, without a sign.
@@ -16,6 +17,7 @@ abbrev pub IsOfKind : ArgumentKind → Text → Type 0
 IsOfKind name word = IsPlainWord word
 IsOfKind side word = IsSideText word
 IsOfKind bands word = word ≡ codes "--bands"
+IsOfKind fit word = word ≡ codes "--fit"
 
 -- each word is of the corresponding kind
 abbrev pub AreOfKinds : List ArgumentKind → List Text → Type 0
@@ -24,14 +26,18 @@ AreOfKinds [] (word ∷ words) = ⊥
 AreOfKinds (kind ∷ kinds) [] = ⊥
 AreOfKinds (kind ∷ kinds) (word ∷ words) = IsOfKind kind word × AreOfKinds kinds words
 
--- the arguments that each command takes, in order; `play` may have bands
+-- the arguments that each command takes, in order; `play` may have bands, and `show` and `play` may fit the frame
 abbrev pub usages : List (Text × List ArgumentKind)
 usages =
     (codes "show", name ∷ side ∷ side ∷ [])
+    ∷ (codes "show", name ∷ side ∷ side ∷ fit ∷ [])
     ∷ (codes "prepare", name ∷ side ∷ side ∷ name ∷ [])
     ∷ (codes "check", name ∷ name ∷ [])
     ∷ (codes "play", name ∷ name ∷ side ∷ side ∷ [])
+    ∷ (codes "play", name ∷ name ∷ side ∷ side ∷ fit ∷ [])
     ∷ (codes "play", name ∷ name ∷ side ∷ side ∷ bands ∷ side ∷ [])
+    ∷ (codes "play", name ∷ name ∷ side ∷ side ∷ bands ∷ side ∷ fit ∷ [])
+    ∷ (codes "play", name ∷ name ∷ side ∷ side ∷ fit ∷ bands ∷ side ∷ [])
     ∷ (codes "over", name ∷ name ∷ name ∷ [])
     ∷ (codes "list", name ∷ [])
     ∷ []

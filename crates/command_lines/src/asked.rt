@@ -15,11 +15,13 @@ pub enum Asked<'a> {
 /// A command with its arguments. A file name is the name of a file; FILE may also be the word `stdin`.
 #[derive(Clone, Copy, Debug, PartialEq, Eq)]
 pub enum CommandLine<'a> {
-    /// Play a file on a surface of this size in pixels.
+    /// Play a file on a surface of this size in pixels, or with `fit` on the largest one within it that has the
+    /// proportion of the file's frame.
     Show {
         file: &'a str,
         width: u32,
         height: u32,
+        fit: bool,
     },
     /// Prepare a file's certificate for surfaces of at most this size, and write it to a file.
     Prepare {
@@ -33,14 +35,15 @@ pub enum CommandLine<'a> {
         file: &'a str,
         certificate: &'a str,
     },
-    /// Play a file by its certificate on a surface of this size in pixels, in bands of some number of rows if that is
-    /// given.
+    /// Play a file by its certificate on a surface of this size in pixels, with `fit` as for `Show`, and in bands of some
+    /// number of rows if that is given.
     Play {
         file: &'a str,
         certificate: &'a str,
         width: u32,
         height: u32,
         bands: Option<u32>,
+        fit: bool,
     },
     /// Play a file by its certificate over an image, at the image's size.
     Over {

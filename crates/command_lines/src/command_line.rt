@@ -6,7 +6,7 @@ ghost use Rattle.clap.specs.Lexer.{usize_max};
 ghost use Rattle.clap.specs.Words.{all_of, first_of, found_of, kind_of, rows_of, subcommand_rows_of};
 ghost use Rattle.mapping.specs.Limits.{IsSurfaceSide};
 ghost use Rattle.command_lines.specs.Asked.{HasPlainWords, IsAskedFor, IsFound, IsValid};
-ghost use Rattle.command_lines.specs.CommandLine.{GivesAll, GivesArgument, GivesBands, GivesName, GivesNumber, GivesSide, GivesDimensions};
+ghost use Rattle.command_lines.specs.CommandLine.{GivesAll, GivesArgument, GivesBands, GivesFlag, GivesName, GivesNumber, GivesSide, GivesDimensions};
 ghost use Rattle.command_lines.specs.CommandLine.{HoldsWords, IsAskedBy, IsRightCommand, command_name, texts_of};
 ghost use Rattle.command_lines.specs.CommandLine.{bands_rule, check_app, list_app, over_app, play_app, prepare_app, show_app, side_rules};
 ghost use Rattle.command_lines.specs.InfoWords.{AreCommandWords, AsksInfoOnce, GivesNamesOnce, HasOneInput, IsOther, names_in};
@@ -126,6 +126,7 @@ fn asked_show<'a>(given: &ArgMatches<'a>) -> Option<CommandLine<'a>>
         file,
         width,
         height,
+        fit: fit_of(given),
     })
 }
 
@@ -194,6 +195,7 @@ fn asked_play<'a>(given: &ArgMatches<'a>) -> Option<CommandLine<'a>>
         width,
         height,
         bands,
+        fit: fit_of(given),
     })
 }
 
@@ -269,6 +271,13 @@ fn bands_of(given: &ArgMatches<'_>) -> Option<Option<u32>>
         return None;
     };
     Some(Some(rows))
+}
+
+/// Whether the proportion of the frame is asked for.
+fn fit_of(given: &ArgMatches<'_>) -> bool
+    ensures { GivesFlag (rows_of (found_of given.now)) (codes "fit") result }
+{
+    given.get_flag("fit")
 }
 
 /// A width or a height, if it is in range, which the parser ensures.

@@ -3,7 +3,7 @@
 ghost use Rattle.std.specs.Prelude.{◌≡◌, IfOk, false};
 ghost use Rattle.clap.specs.Words.{app_of, rule_of};
 ghost use Rattle.command_lines.specs.CommandLine.{check_app, file_app, info_app, list_app, metaplay_app, name_rule, over_app};
-ghost use Rattle.command_lines.specs.CommandLine.{bands_rule, files_rule, play_app, prepare_app, show_app, side_rule};
+ghost use Rattle.command_lines.specs.CommandLine.{bands_rule, files_rule, fit_rule, play_app, prepare_app, show_app, side_rule};
 ghost use Rattle.command_lines.specs.Apps.{AddsDimensions, IsLocalApp};
 
 use clap::{Arg, ArgAction, Command, value_parser};
@@ -24,6 +24,7 @@ certified number of pixels.";
 /// The text below the options in the help.
 const GUIDE: &str = "Examples:
   metaplay show drawing.wmf 400 300 > drawing.ppm
+  metaplay show drawing.wmf 400 300 --fit > drawing.ppm
   metaplay prepare drawing.wmf 4096 4096 drawing.cert
   metaplay check drawing.wmf drawing.cert
   metaplay play drawing.wmf drawing.cert 400 300 > drawing.ppm
@@ -77,7 +78,8 @@ fn show<'a>(alloc: Global) -> Result<Command<'a>, AllocError>
 {
     let about = "Plays a metafile on white and writes the image to standard output";
     let command = of_file(alloc, "show", about)?;
-    with_dimensions(alloc, command)
+    let command = with_dimensions(alloc, command)?;
+    command.arg(fit(alloc))
 }
 
 /// The command `prepare`.
@@ -107,7 +109,8 @@ fn play<'a>(alloc: Global) -> Result<Command<'a>, AllocError>
     let command = of_file(alloc, "play", about)?;
     let command = command.arg(name(alloc, "CERT", "The certificate"))?;
     let command = with_dimensions(alloc, command)?;
-    command.arg(bands(alloc))
+    let command = command.arg(bands(alloc))?;
+    command.arg(fit(alloc))
 }
 
 /// The command `over`.
@@ -193,6 +196,17 @@ fn bands<'a>(alloc: Global) -> Arg<'a>
         .action(ArgAction::Set)
         .value_parser(value_parser!(u32).range(1..=i64::from(MOST_ROWS)))
         .help("How many rows to play at a time; the image is the same")
+}
+
+/// The option for the proportion of the frame.
+fn fit<'a>(alloc: Global) -> Arg<'a>
+    ensures rule { rule_of result ≡ fit_rule }
+    ensures local { result.global ≡ false }
+{
+    Arg::new(alloc, "fit")
+        .long("fit")
+        .action(ArgAction::SetTrue)
+        .help("Keep the picture's proportion; W and H are then the most")
 }
 
 /// The width or the height of the surface.

@@ -5,7 +5,8 @@
 //! - A parsed command line has surfaces from 1 to 8,192 pixels in width and height, and the files and sizes that its
 //!   words give, as `clap` reads them (`line`).
 //! - The right words for a command are parsed, unless an allocation fails. These are its name, then its file names and
-//!   sizes in order, for `play` with or without bands, and for `info` one or more file names (`line`).
+//!   sizes in order, for `play` with or without bands, for `show` and `play` with or without `--fit`, and for `info` one
+//!   or more file names (`line`).
 //! - Standard input is read for at most one of the files of `info` (`line`).
 #![tactic(auto)]
 

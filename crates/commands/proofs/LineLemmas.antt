@@ -20,10 +20,10 @@ use Rattle.command_lines.specs.declared.asked.CommandLine.TheVariants.{Check, Li
 
 -- if an allocation failed, a task has written nothing
 kept : (line : CommandLine) (file certificate image : List ℕ) (old new : Option (List ℕ)) → LineWrites line (task_of line file certificate image) end.OutOfMemory old new → Keeps old new
-kept (Show name width height) file certificate image old new keeps = keeps
+kept (Show name width height fit) file certificate image old new keeps = keeps
 kept (Prepare name width height output) file certificate image old new keeps = keeps
 kept (Check name other) file certificate image old new keeps = keeps
-kept (Play name other width height bands) file certificate image old new keeps = keeps
+kept (Play name other width height bands fit) file certificate image old new keeps = keeps
 kept (Over name other third) file certificate image old new keeps = keeps
 kept (ListLine name) file certificate image old new keeps = keeps
 

@@ -3,6 +3,7 @@ pub mod ClearedFiles
 pub mod Ends
 pub mod Failures
 pub mod Faults
+pub mod Fitting
 pub mod Images
 pub mod InfoLines
 pub mod Inputs

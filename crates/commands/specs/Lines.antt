@@ -7,9 +7,11 @@ use Rattle.command_lines.specs.CommandLine.{HoldsOfAsked, texts_of}
 use Rattle.command_lines.specs.InfoWords.{AreCommandWords, HoldsOfNames, HoldsOfSomeNames}
 use Rattle.commands.specs.Ends.{PrintsBy, WritesBy}
 use Rattle.commands.specs.InfoLines.{InfoPrints, InfoWrites}
+use Rattle.commands.specs.Fitting.{asked_height, asked_width}
 use Rattle.commands.specs.Inputs.{IsInput, standard_input}
 use Rattle.commands.specs.Report.{Reports, PrintsNothing, Printed}
 use Rattle.command_lines.specs.Dimensions.{HoldsOfSome, file_of}
+use Rattle.meta_headers.specs.Opening.{opened}
 use Rattle.commands.specs.Tasks.{Task, check, list, over, play, prepare, show}
 use Rattle.commands.specs.declared.command_end.Completion.{Completion}
 use Rattle.commands.specs.declared.command_end.CommandEnd.{CommandEnd}
@@ -25,10 +27,11 @@ PreparesNamedFile line = ⊥
 
 -- the task of a command line, if its file, certificate and image have these bytes
 abbrev pub task_of : CommandLine → List ℕ → List ℕ → List ℕ → Task
-task_of (Show name width height) file certificate image = show file width height
+task_of (Show name width height fit) file certificate image = show file (asked_width fit (opened file) width height) (asked_height fit (opened file) width height)
 task_of (Prepare name width height output) file certificate image = prepare file width height
 task_of (Check name other) file certificate image = check file certificate
-task_of (Play name other width height bands) file certificate image = play file certificate width height
+task_of (Play name other width height bands fit) file certificate image =
+    play file certificate (asked_width fit (opened file) width height) (asked_height fit (opened file) width height)
 task_of (Over name other third) file certificate image = over file certificate image
 task_of (ListLine name) file certificate image = list file
 

@@ -19,6 +19,8 @@
 //!   that the check reports. After a successful check, `play` can reject only a surface above the certificate's bound,
 //!   and `over` such a surface or an invalid image. Then nothing was written, except the report of `check`, and the
 //!   lines of `list` for records that break.
+//! - With `--fit`, the surface of `show` and of `play` is the largest one within the given width and height that has the
+//!   proportion of the file's frame (`run_words`, by `asked_width` and `asked_height`).
 //! - `info` writes one line about each file, in order, and ends as the worst of the files does. A line has what is
 //!   known of the file, or says why the file wasn't read (`info_command`).
 //! - If an allocation fails, nothing was written, except whole lines of `info`. For `show`, `prepare` and `list` the
@@ -40,6 +42,7 @@ mod check_report;
 mod command_end;
 mod failure;
 mod file_line;
+mod fitting;
 mod image_output;
 mod info;
 mod input;

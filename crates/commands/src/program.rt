@@ -14,6 +14,7 @@ ghost use Rattle.command_lines.specs.Dimensions.{HasDimensions, file_of};
 
 use crate::check::check_command;
 use crate::command_end::{CommandEnd, Completion};
+use crate::fitting::asked_sides;
 use crate::info::info_command;
 use crate::input::InputFault;
 use crate::inputs::{Inputs, read_inputs};
@@ -28,6 +29,7 @@ use crate::shown::show_error;
 use canvas::FaultCount;
 use clap::error::ErrorKind;
 use command_lines::{Asked, CommandLine, line};
+use proportions::Sides;
 use std::alloc::Global;
 use std::env;
 use std::io::Read;
@@ -161,7 +163,13 @@ fn run_task<R: Files + AllocGlobal, O: FaultCount, E: FaultCount>(
 {
     let (file, certificate) = (inputs.file.as_slice(), inputs.certificate.as_slice());
     match line {
-        CommandLine::Show { width, height, .. } => {
+        CommandLine::Show {
+            width,
+            height,
+            fit,
+            ..
+        } => {
+            let Sides { width, height } = asked_sides(file, width, height, fit);
             show_command(rt.alloc(), file, width, height, out, err)
         }
         CommandLine::Prepare {
@@ -175,8 +183,10 @@ fn run_task<R: Files + AllocGlobal, O: FaultCount, E: FaultCount>(
             width,
             height,
             bands,
+            fit,
             ..
         } => {
+            let Sides { width, height } = asked_sides(file, width, height, fit);
             let alloc = rt.alloc();
             play_command(alloc, file, certificate, width, height, bands, out, err)
         }
