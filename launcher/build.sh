@@ -144,6 +144,7 @@ build() {
     all_seconds=$(seconds_of $(crates | cut -d ' ' -f 1))
     start=$(date +%s)
     last=$start
+    write_version || return 1
     sum=$(sources_sum)
     say "proving and building $total crates, $most at a time; '$0 try' doesn't wait for it, and proves nothing ..."
     build_crates || return 1

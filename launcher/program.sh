@@ -5,7 +5,11 @@ main=meta_main
 made=$root/crates/$main/out
 program=$made/$main
 
-# What was built: the checksums of the sources and of the program, and the toolchain's version, a line each.
+# The source that has the program's version and the checksum of all other sources.
+version=crates/$main/src/version.rt
+
+# What was built: the checksums of the sources and of the program, the program's version, and that of the toolchain, a
+# line each.
 sums=$made/built.sums
 
 # The size, the time of the last change and the name of each of these files. As long as this listing stays the same,
@@ -51,11 +55,28 @@ listed() {
     fi
 }
 
-# The checksum of all sources, with their names.
+# The checksum of all sources but that of the version, with their names.
 sources_sum() {
     # shellcheck disable=SC2046
-    (cd "$root" && find crates.txt $(source_folders) -type f -print0 | LC_ALL=C sort -z | xargs -0 sha256sum) |
-        sha256sum | cut -d ' ' -f 1
+    (cd "$root" && find crates.txt $(source_folders) -type f ! -path "$version" -print0 | LC_ALL=C sort -z |
+        xargs -0 sha256sum) | sha256sum | cut -d ' ' -f 1
+}
+
+# What the source of the version has to be, by the newest entry of CHANGELOG.md and by the other sources.
+version_text() {
+    number=$(sed -n 's/^## \([0-9.]*\).*/\1/p' "$root/CHANGELOG.md" | head -n 1)
+    cat <<END
+//! The program's version. This file is written by \`launcher/version\`.
+
+/// The line that \`--version\` writes: the version, and the checksum of all sources but this one.
+pub(crate) const VERSION: &str =
+    "metaplay $number (sources $(sources_sum))\\n";
+END
+}
+
+# Writes the source of the version, if it isn't as it has to be.
+write_version() {
+    [ "$(version_text)" = "$(cat "$root/$version" 2>/dev/null)" ] || version_text | put "$root/$version"
 }
 
 # The toolchain's version. Without a toolchain nothing can be built, so the one that built the program counts.
@@ -67,6 +88,7 @@ toolchain() {
 sums_now() {
     echo "sources $(sources_sum)"
     echo "program $(sha256sum <"$program" | cut -d ' ' -f 1)"
+    echo "version $(sed -n 's/^ *"\(.*\)\\\\n";$/\1/p' "$root/$version" 2>/dev/null)"
     echo "toolchain $(toolchain)"
 }
 

@@ -57,6 +57,7 @@ class Launcher(unittest.TestCase):
         for name, text in CRATES.items():
             self.write(f"crates/{name}", text)
         self.write("crates.txt", CRATES_TXT)
+        self.write("CHANGELOG.md", "# Changelog\n\n## 2.3.4\n\n## 2.3.3\n")
         self.write("samples/dot.wmf", "")
         (self.folder / "bin/rt").write_text(RT)
         (self.folder / "bin/rt").chmod(0o755)
@@ -127,6 +128,18 @@ class Launcher(unittest.TestCase):
     def test_another_program_is_not_run(self):
         self.is_run("first", ["low", "meta_main"])
         self.write("crates/meta_main/out/meta_main", "#!/bin/sh\necho wrong\n")
+        self.is_run("first", ["low", "meta_main"])
+
+    def test_the_version_is_that_of_the_changelog(self):
+        self.is_run("first", ["low", "meta_main"])
+        version = self.root / "crates/meta_main/src/version.rt"
+        record = subprocess.run([self.root / "launcher/record"], capture_output=True, text=True, check=True, env=self.settings).stdout.strip()
+        self.assertIn(f'\n    "metaplay 2.3.4 (sources {record})\\n";\n', version.read_text())
+        # Its source is no part of the checksum, but the program is built again if the version is another.
+        self.write("CHANGELOG.md", "# Changelog\n\n## 2.4.0\n\n## 2.3.4\n")
+        self.is_run("first", [])
+        subprocess.run([self.root / "launcher/version"], check=True, env=self.settings)
+        self.assertIn(f'"metaplay 2.4.0 (sources {record})', version.read_text())
         self.is_run("first", ["low", "meta_main"])
 
     def test_a_file_of_no_crate_is_no_change(self):

@@ -14,6 +14,7 @@ use Rattle.clap.proofs.OnLiterals.{clap_on_literals}
 use Rattle.command_lines.specs.CommandLine.{GivesAll, IsPlainWord, IsRightCommand, files_rule, info_app, metaplay_app, texts_of}
 use Rattle.command_lines.specs.InfoWords.{AreCommandWords, AreInfoWords, AsksInfo, AsksInfoByWords, AsksInfoOnce, IsOther}
 use Rattle.command_lines.specs.RightWords.{AreOfKinds, ArgumentKind, name}
+use Rattle.command_lines.specs.VersionWords.{AreVersionWords}
 use Rattle.command_lines.proofs.KindLemmas.{end_passes, horizontal_is, horizontal_kinds, kinds_end, kinds_pass, kinds_walked, rows_kinds}
 use Rattle.command_lines.proofs.TakenLemmas.{IsTaken, built_shape, of_usage, other_than_info, right_command, right_taken}
 
@@ -133,17 +134,19 @@ info_words_asked words right =
     })
 
 -- clap accepts words that are right for a command
-pub command_words_taken : (words : List Text) → AreCommandWords words → length words ≤ usize_max → takes metaplay_app words ≡ true
-command_words_taken words (inl right) few = right_taken words right
-command_words_taken words (inr right) few = info_words_taken words right few
+pub command_words_taken : (words : List Text) → (AreVersionWords words → ⊥) → AreCommandWords words → length words ≤ usize_max → takes metaplay_app words ≡ true
+command_words_taken words other (inl right) few = right_taken words right
+command_words_taken words other (inr (inl right)) few = info_words_taken words right few
+command_words_taken words other (inr (inr version)) few = absurd (other version)
 
 -- what is asked for is found in them
 pub command_words_found : (words : List Text) (met : Option (Text × List Row)) (found : Bool) → met ≡ subcommand_of metaplay_app words
-    → (IsRightCommand met → IsOther (codes "info") met → found ≡ true) → (AsksInfoOnce met → found ≡ true) → AreCommandWords words → found ≡ true
-command_words_found words met found is command info (inl right) =
+    → (IsRightCommand met → IsOther (codes "info") met → found ≡ true) → (AsksInfoOnce met → found ≡ true) → (AreVersionWords words → ⊥) → AreCommandWords words → found ≡ true
+command_words_found words met found is command info other (inl right) =
     command (subst IsRightCommand (sym is) (right_command words right)) (subst (IsOther (codes "info")) (sym is) (other_than_info words right))
-command_words_found words met found is command info (inr right) =
+command_words_found words met found is command info other (inr (inl right)) =
     info (record { names = right.name ∷ right.names; asks = subst (λ (rows : Option (Text × List Row)). AsksInfo rows (right.name ∷ right.names)) (sym is) (info_words_asked words right); once = right.once })
+command_words_found words met found is command info other (inr (inr version)) = absurd (other version)
 
 -- there are as many texts as words
 pub few_texts : (words : List (String Global)) → length words ≤ usize_max → length (texts_of words) ≤ usize_max

@@ -8,10 +8,10 @@ use Rattle.clap.proofs.OnLiterals.{clap_on_literals}
 use Rattle.command_lines.specs.declared.asked.CommandLine.{CommandLine}
 use Rattle.command_lines.specs.declared.asked.CommandLine.TheVariants.{Check, List as ListLine, Over, Play, Prepare, Show}
 use Rattle.command_lines.specs.CommandLine.{AreOfWords, GivesName, GivesNumber, GivesDimensions, HasWords, IsAskedByWords, IsPlainWord, metaplay_app, number_of}
-use Rattle.command_lines.specs.Asked.{HasPlainWords, IsAskedFor}
+use Rattle.command_lines.specs.Asked.{HasPlainWords, IsAskedFor, IsFound}
 use Rattle.command_lines.specs.InfoWords.{AsksInfoByWords, names_in}
 use Rattle.command_lines.specs.declared.asked.Asked.{Asked}
-use Rattle.command_lines.specs.declared.asked.Asked.TheVariants.{Command, Info}
+use Rattle.command_lines.specs.declared.asked.Asked.TheVariants.{Command, Info, Version}
 use Rattle.command_lines.specs.RightWords as kind
 use Rattle.command_lines.proofs.KindLemmas.{kinds_end, rows_kinds}
 use Rattle.command_lines.proofs.SideLemmas.{no_minus}
@@ -114,3 +114,12 @@ plain_words words (Info names) asked program file wide high plain_file plain_wid
     let about : AsksInfoByWords (program ∷ codes "show" ∷ file ∷ wide ∷ high ∷ []) (names_in names.items) =
     subst (λ (l : List Text). AsksInfoByWords l (names_in names.items)) is asked in
     let bad : is_byte 115 105 = one_name _ _ _ _ _ rows about.command in absurd (omega (arith, bad))
+plain_words words Version asked program file wide high plain_file plain_wide plain_high is =
+    let five : program ∷ codes "show" ∷ file ∷ wide ∷ high ∷ [] ≡ asked.program ∷ asked.word ∷ [] = sym is ∙ asked.are in
+    cc
+
+-- what is found is what is asked for
+pub asked_for : (words : List Text) (asked : Asked) → IsFound (subcommand_of metaplay_app words) asked → IsAskedFor words asked
+asked_for words (Command line) found = found
+asked_for words (Info names) found = found
+asked_for words Version found = absurd found

@@ -6,6 +6,7 @@ use Rattle.std.specs.Str.{bytes_eq}
 use Rattle.clap.specs.Words.{Row, Text, all_of, subcommand_of}
 use Rattle.command_lines.specs.CommandLine.{IsPlainWord, metaplay_app}
 use Rattle.command_lines.specs.RightWords.{AreRightWords}
+use Rattle.command_lines.specs.VersionWords.{AreVersionWords}
 
 -- the command is `info`, and these names were given to it, in order
 pub record AsksInfo (met : Option (Text × List Row)) (names : List Text) : Type 0 where
@@ -46,9 +47,9 @@ pub record AreInfoWords (words : List Text) : Type 0 where
   pub plain : All IsPlainWord (name ∷ names)
   pub once : HasOneInput (name ∷ names)
 
--- words are right for a command
+-- words are right for a command, or for the version
 abbrev pub AreCommandWords : List Text → Type 0
-AreCommandWords words = AreRightWords words ⊎ AreInfoWords words
+AreCommandWords words = AreRightWords words ⊎ (AreInfoWords words ⊎ AreVersionWords words)
 
 -- the texts of borrowed names
 abbrev pub names_in : List (Bor (List ℕ)) → List Text

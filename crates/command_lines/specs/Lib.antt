@@ -4,3 +4,4 @@ pub mod CommandLine
 pub mod Dimensions
 pub mod InfoWords
 pub mod RightWords
+pub mod VersionWords

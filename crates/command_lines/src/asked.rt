@@ -10,6 +10,8 @@ pub enum Asked<'a> {
     Command(CommandLine<'a>),
     /// Information about the files with these names, of which at most one is the word `stdin`.
     Info(Vec<&'a str>),
+    /// The program's version.
+    Version,
 }
 
 /// A command with its arguments. A file name is the name of a file; FILE may also be the word `stdin`.

@@ -1,6 +1,6 @@
 //! Parses the command line.
 
-ghost use Rattle.std.specs.Prelude.{◌≡◌, ◌≤◌, IfErr, IfOk, IfSome, IsSome, Some, codes, count_by, length};
+ghost use Rattle.std.specs.Prelude.{◌≡◌, ◌≤◌, ◌↔◌, IfErr, IfOk, IfSome, IsSome, Ok, Some, codes, count_by, length, true};
 ghost use Rattle.std.specs.Str.{bytes_eq};
 ghost use Rattle.clap.specs.Lexer.{usize_max};
 ghost use Rattle.clap.specs.Words.{all_of, first_of, found_of, kind_of, rows_of, subcommand_rows_of};
@@ -11,6 +11,7 @@ ghost use Rattle.command_lines.specs.CommandLine.{HoldsWords, IsAskedBy, IsRight
 ghost use Rattle.command_lines.specs.CommandLine.{bands_rule, check_app, list_app, over_app, play_app, prepare_app, show_app, side_rules};
 ghost use Rattle.command_lines.specs.InfoWords.{AreCommandWords, AsksInfoOnce, GivesNamesOnce, HasOneInput, IsOther, names_in};
 ghost use Rattle.command_lines.specs.Dimensions.{AreDimensions, HasDimensions};
+ghost use Rattle.command_lines.specs.VersionWords.{AreVersionWords};
 
 use crate::asked::{Asked, CommandLine, STANDARD_INPUT};
 use crate::declared::metaplay;
@@ -21,13 +22,17 @@ use std::alloc::{AllocError, Global};
 
 /// Parses the words of a command line, the program's name first, with `clap`. The error contains the text to show to
 /// the user; help is an error too. If the words are right for a command, parsing can fail only because an allocation
-/// failed.
+/// failed. Words that ask for the version can't fail: they are compared here, and `clap` knows nothing of them.
 pub fn line<'a>(alloc: Global, words: &'a [String]) -> Result<Asked<'a>, Error>
     ensures valid { IfOk result IsValid }
     ensures asked { IfOk result (IsAskedFor (texts_of words.entry.now)) }
     ensures plain { IfOk result (HasPlainWords (texts_of words.entry.now)) }
     ensures taken { IfErr result (λ e. AreCommandWords (texts_of words.entry.now) → kind_of e ≡ ErrorKind.OutOfMemory) }
+    ensures version { AreVersionWords (texts_of words.entry.now) → result ≡ Ok Asked.Version }
 {
+    if asks_version(words) {
+        return Ok(Asked::Version);
+    }
     count_law(words);
     let mut command = metaplay(alloc)?;
     let matches = command.try_get_matches_from_mut(words)?;
@@ -38,6 +43,13 @@ pub fn line<'a>(alloc: Global, words: &'a [String]) -> Result<Asked<'a>, Error>
             Err(command.error(ErrorKind::ArgumentConflict, why)?)
         }
     }
+}
+
+/// Whether the words ask for the version.
+fn asks_version(words: &[String]) -> bool
+    ensures { result ≡ true ↔ AreVersionWords (texts_of words.now) }
+{
+    words.len() == 2 && (words[1].as_str() == "--version" || words[1].as_str() == "-V")
 }
 
 /// `clap` counts the words of `info` in a `usize`.

@@ -31,6 +31,7 @@ const GUIDE: &str = "Examples:
   metaplay over drawing.wmf drawing.cert page.ppm > printed.ppm
   metaplay list drawing.wmf
   metaplay info drawing.wmf other.emf
+  metaplay --version
 
 FILE may be the word stdin, for standard input. Images are P6 (ppm(5)). The
 report of check, and what info writes about a file, is one line of JSON.

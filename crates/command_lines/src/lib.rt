@@ -7,6 +7,7 @@
 //! - The right words for a command are parsed, unless an allocation fails. These are its name, then its file names and
 //!   sizes in order, for `play` with or without bands, for `show` and `play` with or without `--fit`, and for `info` one
 //!   or more file names (`line`).
+//! - `--version` or `-V` alone asks for the version (`line`).
 //! - Standard input is read for at most one of the files of `info` (`line`).
 #![tactic(auto)]
 

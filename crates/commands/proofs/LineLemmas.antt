@@ -9,6 +9,8 @@ use Rattle.commands.specs.Inputs.{IsInput}
 use Rattle.commands.specs.Lines.{ErrBy, ErrOfSome, ErrOfWords, HoldsOfAny, HoldsOfWords, LineWrites, OutBy, OutOfSome, OutOfWords, PreparesNamedFile, task_of}
 use Rattle.commands.specs.Faults.{input_end, fault_text}
 use Rattle.commands.specs.Report.{Reports, Printed}
+use Rattle.commands.specs.VersionLines.{VersionPrints, VersionWrites}
+use Rattle.command_lines.specs.VersionWords.{AreVersionWords}
 use Rattle.command_lines.specs.Dimensions.{HasDimensions, file_of}
 use Rattle.command_lines.specs.InfoWords.{AsksInfoByWords, HasOneInput}
 use Rattle.commands.specs.declared.command_end.CommandEnd.{CommandEnd}
@@ -62,8 +64,8 @@ pub unread_done : (f : InputFault) (e : CommandEnd) (P : Type 0) → e ≡ input
 unread_done fault.CannotRead e P is done = cc
 unread_done fault.OutOfMemory e P is done = cc
 
-module _ (words : List Text) (line : CommandLine) (input : Option (List ℕ)) (dimensions : HasDimensions line) (asked : IsAskedByWords words line) where
-  pub out_of_line : (e : CommandEnd) (old new : Option (List ℕ)) → OutBy e line input old new → OutOfWords e words input old new
+module _ (words : List Text) (line : CommandLine) (input : Option (List ℕ)) (version : List ℕ) (dimensions : HasDimensions line) (asked : IsAskedByWords words line) where
+  pub out_of_line : (e : CommandEnd) (old new : Option (List ℕ)) → OutBy e line input old new → OutOfWords e words input version old new
   out_of_line end.Done old new fact = inl (record { line = line; dimensions = dimensions; asked = asked; fact = fact })
   out_of_line end.Rejected old new fact = inl (record { line = line; dimensions = dimensions; asked = asked; fact = fact })
   out_of_line end.CannotWrite old new fact = inl (record { line = line; dimensions = dimensions; asked = asked; fact = fact })
@@ -97,20 +99,20 @@ module _ (words : List Text) (line : CommandLine) (input : Option (List ℕ)) (d
   usage_unwritten end.OutOfMemory old new fact is = absurd cc
 
 -- what `info` writes and reports for names that the words give it
-module _ (words names : List Text) (input : Option (List ℕ)) (once : HasOneInput names) (asked : AsksInfoByWords words names) where
-  pub out_of_names : (e : CommandEnd) (old new : Option (List ℕ)) → InfoWrites e names input old new → OutOfWords e words input old new
-  out_of_names end.Done old new fact = inr (record { names = names; once = once; asked = asked; fact = fact })
-  out_of_names end.Rejected old new fact = inr (record { names = names; once = once; asked = asked; fact = fact })
-  out_of_names end.CannotWrite old new fact = inr (record { names = names; once = once; asked = asked; fact = fact })
-  out_of_names end.CannotRead old new fact = inr (record { names = names; once = once; asked = asked; fact = fact })
+module _ (words names : List Text) (input : Option (List ℕ)) (version : List ℕ) (once : HasOneInput names) (asked : AsksInfoByWords words names) where
+  pub out_of_names : (e : CommandEnd) (old new : Option (List ℕ)) → InfoWrites e names input old new → OutOfWords e words input version old new
+  out_of_names end.Done old new fact = inr (inl (record { names = names; once = once; asked = asked; fact = fact }))
+  out_of_names end.Rejected old new fact = inr (inl (record { names = names; once = once; asked = asked; fact = fact }))
+  out_of_names end.CannotWrite old new fact = inr (inl (record { names = names; once = once; asked = asked; fact = fact }))
+  out_of_names end.CannotRead old new fact = inr (inl (record { names = names; once = once; asked = asked; fact = fact }))
   out_of_names end.OutOfMemory old new fact = inr (record { names = names; once = once; asked = asked; fact = fact })
   out_of_names end.WrongUsage old new fact = tt
 
   pub err_of_names : (e : CommandEnd) (printed : Printed) (old new : Option (List ℕ)) → InfoPrints e printed old new → ErrOfWords e words input printed old new
-  err_of_names end.Done printed old new fact = inr (record { names = names; once = once; asked = asked; fact = fact })
-  err_of_names end.Rejected printed old new fact = inr (record { names = names; once = once; asked = asked; fact = fact })
-  err_of_names end.CannotWrite printed old new fact = inr (record { names = names; once = once; asked = asked; fact = fact })
-  err_of_names end.CannotRead printed old new fact = inr (record { names = names; once = once; asked = asked; fact = fact })
+  err_of_names end.Done printed old new fact = inr (inl (record { names = names; once = once; asked = asked; fact = fact }))
+  err_of_names end.Rejected printed old new fact = inr (inl (record { names = names; once = once; asked = asked; fact = fact }))
+  err_of_names end.CannotWrite printed old new fact = inr (inl (record { names = names; once = once; asked = asked; fact = fact }))
+  err_of_names end.CannotRead printed old new fact = inr (inl (record { names = names; once = once; asked = asked; fact = fact }))
   err_of_names end.OutOfMemory printed old new fact = fact
   err_of_names end.WrongUsage printed old new fact = tt
 
@@ -123,17 +125,45 @@ never_usage end.CannotWrite names input old new P fact is = absurd cc
 never_usage end.CannotRead names input old new P fact is = absurd cc
 never_usage end.OutOfMemory names input old new P fact is = absurd cc
 
--- what holds for a parsed command line, or for names, holds for words that give them
-pub holds_of_line : (words : List Text) (line : CommandLine) (holds : CommandLine → Type 0) (of_names : List Text → Type 0) → HasDimensions line → IsAskedByWords words line → holds line → HoldsOfWords words holds of_names
-holds_of_line words line holds of_names dimensions asked fact = inl (record { line = line; dimensions = dimensions; asked = asked; fact = fact })
+-- what is written and reported if the words ask for the version
+module _ (words : List Text) (input : Option (List ℕ)) (version : List ℕ) (asked : AreVersionWords words) where
+  pub out_of_version : (e : CommandEnd) (old new : Option (List ℕ)) → VersionWrites e version old new → OutOfWords e words input version old new
+  out_of_version end.Done old new fact = inr (inr (asked, fact))
+  out_of_version end.CannotWrite old new fact = inr (inr (asked, fact))
+  out_of_version end.Rejected old new fact = absurd fact
+  out_of_version end.CannotRead old new fact = absurd fact
+  out_of_version end.OutOfMemory old new fact = absurd fact
+  out_of_version end.WrongUsage old new fact = absurd fact
 
-pub holds_of_names : (words names : List Text) (of_line : CommandLine → Type 0) (holds : List Text → Type 0) → HasOneInput names → AsksInfoByWords words names → holds names → HoldsOfWords words of_line holds
-holds_of_names words names of_line holds once asked fact = inr (record { names = names; once = once; asked = asked; fact = fact })
+  pub err_of_version : (e : CommandEnd) (printed : Printed) (old new : Option (List ℕ)) → VersionPrints e printed old new → ErrOfWords e words input printed old new
+  err_of_version end.Done printed old new fact = inr (inr (asked, fact))
+  err_of_version end.CannotWrite printed old new fact = inr (inr (asked, fact))
+  err_of_version end.Rejected printed old new fact = absurd fact
+  err_of_version end.CannotRead printed old new fact = absurd fact
+  err_of_version end.OutOfMemory printed old new fact = absurd fact
+  err_of_version end.WrongUsage printed old new fact = absurd fact
+
+-- the version is never wrong usage
+pub version_is_right : (e : CommandEnd) (version : List ℕ) (old new : Option (List ℕ)) (P : Type 0) → VersionWrites e version old new → e ≡ end.WrongUsage → P
+version_is_right end.WrongUsage version old new P fact is = absurd fact
+version_is_right end.Done version old new P fact is = absurd cc
+version_is_right end.Rejected version old new P fact is = absurd fact
+version_is_right end.CannotWrite version old new P fact is = absurd cc
+version_is_right end.CannotRead version old new P fact is = absurd fact
+version_is_right end.OutOfMemory version old new P fact is = absurd fact
+
+-- what holds for a parsed command line, or for names, holds for words that give them
+pub holds_of_line : (words : List Text) (line : CommandLine) (holds : CommandLine → Type 0) (of_names : List Text → Type 0) (of_version : Type 0) → HasDimensions line → IsAskedByWords words line → holds line → HoldsOfWords words holds of_names of_version
+holds_of_line words line holds of_names of_version dimensions asked fact = inl (record { line = line; dimensions = dimensions; asked = asked; fact = fact })
+
+pub holds_of_names : (words names : List Text) (of_line : CommandLine → Type 0) (holds : List Text → Type 0) (of_version : Type 0) → HasOneInput names → AsksInfoByWords words names → holds names → HoldsOfWords words of_line holds of_version
+holds_of_names words names of_line holds of_version once asked fact = inr (inl (record { names = names; once = once; asked = asked; fact = fact }))
 
 -- what holds for what the words ask for holds for some command
-pub holds_of_some : (words : List Text) (of_line : CommandLine → Type 0) (of_names : List Text → Type 0) → HoldsOfWords words of_line of_names → HoldsOfAny of_line of_names
-holds_of_some words of_line of_names (inl asked) = inl (record { line = asked.line; dimensions = asked.dimensions; fact = asked.fact })
-holds_of_some words of_line of_names (inr asked) = inr (record { names = asked.names; once = asked.once; fact = asked.fact })
+pub holds_of_some : (words : List Text) (of_line : CommandLine → Type 0) (of_names : List Text → Type 0) (of_version : Type 0) → HoldsOfWords words of_line of_names of_version → HoldsOfAny of_line of_names of_version
+holds_of_some words of_line of_names of_version (inl asked) = inl (record { line = asked.line; dimensions = asked.dimensions; fact = asked.fact })
+holds_of_some words of_line of_names of_version (inr (inl asked)) = inr (inl (record { names = asked.names; once = asked.once; fact = asked.fact }))
+holds_of_some words of_line of_names of_version (inr (inr asked)) = inr (inr asked.1)
 
 -- wrong usage and out of memory aren't failed outputs, and the work isn't done
 pub usage_failed : (e : CommandEnd) (P : Type 0) → (e ≡ end.WrongUsage ⊎ e ≡ end.OutOfMemory) → e ≡ end.CannotWrite → P
@@ -145,19 +175,19 @@ usage_done e P (inl wrong) done = cc
 usage_done e P (inr memory) done = cc
 
 -- what the words write is what some words write
-pub out_of_asked : (words : List Text) (input : Option (List ℕ)) (e : CommandEnd) (old new : Option (List ℕ)) → OutOfWords e words input old new → OutOfSome e input old new
-out_of_asked words input end.Done old new asked = holds_of_some words _ _ asked
-out_of_asked words input end.Rejected old new asked = holds_of_some words _ _ asked
-out_of_asked words input end.CannotWrite old new asked = holds_of_some words _ _ asked
-out_of_asked words input end.CannotRead old new asked = holds_of_some words _ _ asked
-out_of_asked words input end.OutOfMemory old new (inl keeps) = inl keeps
-out_of_asked words input end.OutOfMemory old new (inr asked) = inr (record { names = asked.names; once = asked.once; fact = asked.fact })
-out_of_asked words input end.WrongUsage old new asked = asked
+pub out_of_asked : (words : List Text) (input : Option (List ℕ)) (version : List ℕ) (e : CommandEnd) (old new : Option (List ℕ)) → OutOfWords e words input version old new → OutOfSome e input version old new
+out_of_asked words input version end.Done old new asked = holds_of_some words _ _ _ asked
+out_of_asked words input version end.Rejected old new asked = holds_of_some words _ _ _ asked
+out_of_asked words input version end.CannotWrite old new asked = holds_of_some words _ _ _ asked
+out_of_asked words input version end.CannotRead old new asked = holds_of_some words _ _ _ asked
+out_of_asked words input version end.OutOfMemory old new (inl keeps) = inl keeps
+out_of_asked words input version end.OutOfMemory old new (inr asked) = inr (record { names = asked.names; once = asked.once; fact = asked.fact })
+out_of_asked words input version end.WrongUsage old new asked = asked
 
 pub err_of_asked : (words : List Text) (input : Option (List ℕ)) (e : CommandEnd) (printed : Printed) (old new : Option (List ℕ)) → ErrOfWords e words input printed old new → ErrOfSome e input printed old new
-err_of_asked words input end.Done printed old new asked = holds_of_some words _ _ asked
-err_of_asked words input end.Rejected printed old new asked = holds_of_some words _ _ asked
-err_of_asked words input end.CannotWrite printed old new asked = holds_of_some words _ _ asked
-err_of_asked words input end.CannotRead printed old new asked = holds_of_some words _ _ asked
+err_of_asked words input end.Done printed old new asked = holds_of_some words _ _ _ asked
+err_of_asked words input end.Rejected printed old new asked = holds_of_some words _ _ _ asked
+err_of_asked words input end.CannotWrite printed old new asked = holds_of_some words _ _ _ asked
+err_of_asked words input end.CannotRead printed old new asked = holds_of_some words _ _ _ asked
 err_of_asked words input end.OutOfMemory printed old new asked = asked
 err_of_asked words input end.WrongUsage printed old new asked = asked

@@ -15,3 +15,4 @@ pub mod Report
 pub mod Reported
 pub mod Statuses
 pub mod Tasks
+pub mod VersionLines

@@ -10,6 +10,9 @@ use Rattle.commands.specs.InfoLines.{InfoPrints, InfoWrites}
 use Rattle.commands.specs.Fitting.{asked_height, asked_width}
 use Rattle.commands.specs.Inputs.{IsInput, standard_input}
 use Rattle.commands.specs.Report.{Reports, PrintsNothing, Printed}
+use Rattle.commands.specs.VersionLines.{VersionPrints, VersionWrites}
+use Rattle.commands.specs.declared.program.Call.{Call}
+use Rattle.command_lines.specs.VersionWords.{AreVersionWords}
 use Rattle.command_lines.specs.Dimensions.{HoldsOfSome, file_of}
 use Rattle.meta_headers.specs.Opening.{opened}
 use Rattle.commands.specs.Tasks.{Task, check, list, over, play, prepare, show}
@@ -76,36 +79,41 @@ ErrBy end.CannotRead line input printed old new = Reports printed old new (codes
 ErrBy end.OutOfMemory line input printed old new = Reports printed old new (codes "OutOfMemory")
 ErrBy end.WrongUsage line input printed old new = PreparesNamedFile line × Reports printed old new (codes "OUT is FILE")
 
--- something holds for a command on one file, or for the names of files whose information is asked for
-abbrev pub HoldsOfWords : List Text → (CommandLine → Type 0) → (List Text → Type 0) → Type 0
-HoldsOfWords words of_line of_names = HoldsOfAsked words of_line ⊎ HoldsOfNames words of_names
+-- something holds for what the words ask for: a command on one file, information about files, or the version
+abbrev pub HoldsOfWords : List Text → (CommandLine → Type 0) → (List Text → Type 0) → Type 0 → Type 0
+HoldsOfWords words of_line of_names of_version = HoldsOfAsked words of_line ⊎ (HoldsOfNames words of_names ⊎ (AreVersionWords words × of_version))
 
-abbrev pub HoldsOfAny : (CommandLine → Type 0) → (List Text → Type 0) → Type 0
-HoldsOfAny of_line of_names = HoldsOfSome of_line ⊎ HoldsOfSomeNames of_names
+-- something holds for one of these
+abbrev pub HoldsOfAny : (CommandLine → Type 0) → (List Text → Type 0) → Type 0 → Type 0
+HoldsOfAny of_line of_names of_version = HoldsOfSome of_line ⊎ (HoldsOfSomeNames of_names ⊎ of_version)
 
 -- What the program writes to standard output for its words: anything if they are wrong usage, otherwise what the
 -- command that they ask for writes. If an allocation failed, only `info` may have written something.
-abbrev pub OutOfWords : CommandEnd → List Text → Option (List ℕ) → Option (List ℕ) → Option (List ℕ) → Type 0
-OutOfWords end.WrongUsage words input old new = ⊤
-OutOfWords end.OutOfMemory words input old new = Keeps old new ⊎ HoldsOfNames words (λ names. InfoWrites end.OutOfMemory names input old new)
-OutOfWords end words input old new = HoldsOfWords words (λ line. OutBy end line input old new) (λ names. InfoWrites end names input old new)
+abbrev pub OutOfWords : CommandEnd → List Text → Option (List ℕ) → List ℕ → Option (List ℕ) → Option (List ℕ) → Type 0
+OutOfWords end.WrongUsage words input version old new = ⊤
+OutOfWords end.OutOfMemory words input version old new = Keeps old new ⊎ HoldsOfNames words (λ names. InfoWrites end.OutOfMemory names input old new)
+OutOfWords end words input version old new =
+    HoldsOfWords words (λ line. OutBy end line input old new) (λ names. InfoWrites end names input old new) (VersionWrites end version old new)
 
 -- What the program reports on standard error for its words.
 abbrev pub ErrOfWords : CommandEnd → List Text → Option (List ℕ) → Printed → Option (List ℕ) → Option (List ℕ) → Type 0
 ErrOfWords end.WrongUsage words input printed old new = ⊤
 ErrOfWords end.OutOfMemory words input printed old new = Reports printed old new (codes "OutOfMemory")
-ErrOfWords end words input printed old new = HoldsOfWords words (λ line. ErrBy end line input printed old new) (λ names. InfoPrints end printed old new)
+ErrOfWords end words input printed old new =
+    HoldsOfWords words (λ line. ErrBy end line input printed old new) (λ names. InfoPrints end printed old new) (VersionPrints end printed old new)
 
 -- what the program writes to standard output, or reports on standard error, for some words
-abbrev pub OutOfSome : CommandEnd → Option (List ℕ) → Option (List ℕ) → Option (List ℕ) → Type 0
-OutOfSome end.WrongUsage input old new = ⊤
-OutOfSome end.OutOfMemory input old new = Keeps old new ⊎ HoldsOfSomeNames (λ names. InfoWrites end.OutOfMemory names input old new)
-OutOfSome end input old new = HoldsOfAny (λ line. OutBy end line input old new) (λ names. InfoWrites end names input old new)
+abbrev pub OutOfSome : CommandEnd → Option (List ℕ) → List ℕ → Option (List ℕ) → Option (List ℕ) → Type 0
+OutOfSome end.WrongUsage input version old new = ⊤
+OutOfSome end.OutOfMemory input version old new = Keeps old new ⊎ HoldsOfSomeNames (λ names. InfoWrites end.OutOfMemory names input old new)
+OutOfSome end input version old new =
+    HoldsOfAny (λ line. OutBy end line input old new) (λ names. InfoWrites end names input old new) (VersionWrites end version old new)
 
 abbrev pub ErrOfSome : CommandEnd → Option (List ℕ) → Printed → Option (List ℕ) → Option (List ℕ) → Type 0
 ErrOfSome end.WrongUsage input printed old new = ⊤
 ErrOfSome end.OutOfMemory input printed old new = Reports printed old new (codes "OutOfMemory")
-ErrOfSome end input printed old new = HoldsOfAny (λ line. ErrBy end line input printed old new) (λ names. InfoPrints end printed old new)
+ErrOfSome end input printed old new =
+    HoldsOfAny (λ line. ErrBy end line input printed old new) (λ names. InfoPrints end printed old new) (VersionPrints end printed old new)
 
 -- the words prepare a certificate of a named file
 abbrev pub PreparesNamed : List (String Global) → Type 0
@@ -125,11 +133,12 @@ module _ {W : Type 0} where
   abbrev pub WritesLine : CommandLine → Option (List ℕ) → Completion → (W → Option (List ℕ)) → W → W → Type 0
   WritesLine line input answer contents old new = OutBy answer.end line input (contents old) (contents new)
 
-  abbrev pub WritesAsked : List (String Global) → Option (List ℕ) → Completion → (W → Option (List ℕ)) → W → W → Type 0
-  WritesAsked words input answer contents old new = OutOfWords answer.end (texts_of words) input (contents old) (contents new)
+  abbrev pub WritesAsked : Call → Option (List ℕ) → Completion → (W → Option (List ℕ)) → W → W → Type 0
+  WritesAsked call input answer contents old new =
+      OutOfWords answer.end (texts_of call.words.now) input call.version.now (contents old) (contents new)
 
-  abbrev pub WritesSome : Option (List ℕ) → Completion → (W → Option (List ℕ)) → W → W → Type 0
-  WritesSome input answer contents old new = OutOfSome answer.end input (contents old) (contents new)
+  abbrev pub WritesSome : Option (List ℕ) → List ℕ → Completion → (W → Option (List ℕ)) → W → W → Type 0
+  WritesSome input version answer contents old new = OutOfSome answer.end input version (contents old) (contents new)
 
   -- what a task, a command line, given words, or some words report on a writer with these contents
   abbrev pub TaskPrints : CommandLine → Inputs → Completion → (W → Option (List ℕ)) → W → W → Type 0

@@ -25,17 +25,17 @@ module _ {W : Type 0} where
 
   -- the output of the command failed, or was flushed, for a command that the words ask for
   abbrev pub FailsAsked : List (String Global) → (W → ℕ) → W → W → Type 0
-  FailsAsked words count old new = HoldsOfWords (texts_of words) (OutputFailed count old new) (λ names. Rises count old new)
+  FailsAsked words count old new = HoldsOfWords (texts_of words) (OutputFailed count old new) (λ names. Rises count old new) (Rises count old new)
 
   abbrev pub FlushesAsked : List (String Global) → (W → Bool) → W → W → Type 0
-  FlushesAsked words flushed old new = HoldsOfWords (texts_of words) (OutputFlushed flushed old new) (λ names. flushed new ≡ true)
+  FlushesAsked words flushed old new = HoldsOfWords (texts_of words) (OutputFlushed flushed old new) (λ names. flushed new ≡ true) (flushed new ≡ true)
 
   -- for some command
   abbrev pub FailsSome : (W → ℕ) → W → W → Type 0
-  FailsSome count old new = HoldsOfAny (OutputFailed count old new) (λ names. Rises count old new)
+  FailsSome count old new = HoldsOfAny (OutputFailed count old new) (λ names. Rises count old new) (Rises count old new)
 
   abbrev pub FlushesSome : (W → Bool) → W → W → Type 0
-  FlushesSome flushed old new = HoldsOfAny (OutputFlushed flushed old new) (λ names. flushed new ≡ true)
+  FlushesSome flushed old new = HoldsOfAny (OutputFlushed flushed old new) (λ names. flushed new ≡ true) (flushed new ≡ true)
 
   -- unless the command ends with its usage, the message on standard error can be incomplete only because that writer
   -- failed

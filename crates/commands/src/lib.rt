@@ -19,6 +19,7 @@
 //!   that the check reports. After a successful check, `play` can reject only a surface above the certificate's bound,
 //!   and `over` such a surface or an invalid image. Then nothing was written, except the report of `check`, and the
 //!   lines of `list` for records that break.
+//! - `--version` writes the text that the program was given for it, and nothing else (`run_words`, by `VersionWrites`).
 //! - With `--fit`, the surface of `show` and of `play` is the largest one within the given width and height that has the
 //!   proportion of the file's frame (`run_words`, by `asked_width` and `asked_height`).
 //! - `info` writes one line about each file, in order, and ends as the worst of the files does. A line has what is
@@ -59,6 +60,7 @@ mod reporting;
 mod same_file;
 mod show;
 mod shown;
+mod version;
 
 pub use check::check_command;
 pub use command_end::{CommandEnd, Completion};
@@ -69,6 +71,6 @@ pub use list::list_command;
 pub use over::over_command;
 pub use play::play_command;
 pub use prepare::prepare_command;
-pub use program::{no_input, run, run_words, usage};
+pub use program::{Call, no_input, run, run_words, usage};
 pub use reporting::{report, report_refusal};
 pub use show::show_command;

@@ -26,6 +26,7 @@ use crate::reporting::report;
 use crate::same_file::replaces_its_file;
 use crate::show::show_command;
 use crate::shown::show_error;
+use crate::version::version_command;
 use canvas::FaultCount;
 use clap::error::ErrorKind;
 use command_lines::{Asked, CommandLine, line};
@@ -35,8 +36,23 @@ use std::env;
 use std::io::Read;
 use std::rt::{Env, Files};
 
-/// Runs the program.
-pub fn run<R, I, O, E>(rt: &R, input: &mut I, out: &mut O, err: &mut E) -> Completion
+/// A call of the program.
+#[derive(Clone, Copy)]
+pub struct Call<'a> {
+    /// The words of the command line, the program's name first.
+    pub words: &'a [String],
+    /// The line about the version.
+    pub version: &'a str,
+}
+
+/// Runs the program, which writes this line if it is asked for its version.
+pub fn run<R, I, O, E>(
+    rt: &R,
+    version: &str,
+    input: &mut I,
+    out: &mut O,
+    err: &mut E,
+) -> Completion
 where
     R: Env + Files + AllocGlobal,
     I: Read,
@@ -44,7 +60,7 @@ where
     E: FaultCount,
     requires capacity_out { O.fault_count out.old < 2 ^ 64 - 1 }
     requires capacity_err { E.fault_count err.old < 2 ^ 64 - 1 }
-    ensures written { WritesSome (I.remaining input.old) result O.contents out.old out.new }
+    ensures written { WritesSome (I.remaining input.old) version.now result O.contents out.old out.new }
     ensures printed { PrintsSome (I.remaining input.old) result E.contents err.old err.new }
     ensures usage_unread { result.end ≡ CommandEnd.WrongUsage → Keeps (I.remaining input.old) (I.remaining input.new) }
     ensures cannot_write { result.end ≡ CommandEnd.CannotWrite → FailsSome O.fault_count out.old out.new }
@@ -53,7 +69,10 @@ where
     ensures unshown { OnErr result.printed (Rises E.fault_count err.old err.new ⊎ Rises O.fault_count out.old out.new) }
 {
     match words(rt) {
-        Ok(words) => run_words(words.as_slice(), rt, input, out, err),
+        Ok(words) => {
+            let words = words.as_slice();
+            run_words(Call { words, version }, rt, input, out, err)
+        }
         Err(InputFault::OutOfMemory) => Completion {
             end: CommandEnd::OutOfMemory,
             printed: report(err, "OutOfMemory"),
@@ -65,9 +84,9 @@ where
     }
 }
 
-/// Does what the words of a command line ask for, the program's name first.
+/// Does what the words of a command line ask for.
 pub fn run_words<R, I, O, E>(
-    words: &[String],
+    call: Call<'_>,
     rt: &R,
     input: &mut I,
     out: &mut O,
@@ -80,20 +99,21 @@ where
     E: FaultCount,
     requires capacity_out { O.fault_count out.old < 2 ^ 64 - 1 }
     requires capacity_err { E.fault_count err.old < 2 ^ 64 - 1 }
-    ensures written { WritesAsked words.entry.now (I.remaining input.old) result O.contents out.old out.new }
-    ensures printed { PrintsAsked words.entry.now (I.remaining input.old) result E.contents err.old err.new }
-    ensures usage_words { RejectsRight words.entry.now result → PreparesNamed words.entry.now }
-    ensures usage_wrong { RejectsRight words.entry.now result → ReportsSameFile result E.contents err.old err.new }
-    ensures usage_unwritten { RejectsRight words.entry.now result → Keeps (O.contents out.old) (O.contents out.new) }
+    ensures written { WritesAsked call.entry (I.remaining input.old) result O.contents out.old out.new }
+    ensures printed { PrintsAsked call.entry.words.now (I.remaining input.old) result E.contents err.old err.new }
+    ensures usage_words { RejectsRight call.entry.words.now result → PreparesNamed call.entry.words.now }
+    ensures usage_wrong { RejectsRight call.entry.words.now result → ReportsSameFile result E.contents err.old err.new }
+    ensures usage_unwritten { RejectsRight call.entry.words.now result → Keeps (O.contents out.old) (O.contents out.new) }
     ensures usage_unread { result.end ≡ CommandEnd.WrongUsage → Keeps (I.remaining input.old) (I.remaining input.new) }
-    ensures cannot_write { result.end ≡ CommandEnd.CannotWrite → FailsAsked words.entry.now O.fault_count out.old out.new }
-    ensures flushed { result.end ≡ CommandEnd.Done → FlushesAsked words.entry.now O.is_flushed out.old out.new }
+    ensures cannot_write { result.end ≡ CommandEnd.CannotWrite → FailsAsked call.entry.words.now O.fault_count out.old out.new }
+    ensures flushed { result.end ≡ CommandEnd.Done → FlushesAsked call.entry.words.now O.is_flushed out.old out.new }
     ensures unreported { IsUnreported result E.fault_count err.old err.new }
     ensures unshown { OnErr result.printed (Rises E.fault_count err.old err.new ⊎ Rises O.fault_count out.old out.new) }
 {
-    match line(rt.alloc(), words) {
+    match line(rt.alloc(), call.words) {
         Ok(Asked::Command(line)) => perform(rt, line, input, out, err),
         Ok(Asked::Info(names)) => info_command(rt, names.as_slice(), input, out, err),
+        Ok(Asked::Version) => version_command(call.version, out, err),
         Err(error) => usage(&error, out, err),
     }
 }

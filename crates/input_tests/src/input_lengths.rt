@@ -3,7 +3,7 @@
 use crate::output_pieces::IMAGE;
 use crate::parsed_lines::words;
 use canvas::Counting;
-use commands::{read_input, run_words};
+use commands::{Call, read_input, run_words};
 use std::alloc::{AllocError, Global};
 use std::io;
 use std::io::Read;
@@ -68,7 +68,11 @@ fn is_shown_of<R: Files + AllocGlobal>(
     };
     let mut out = Counting::new(Vec::new(alloc));
     let mut err = Counting::new(Vec::new(alloc));
-    let answer = run_words(asked.as_slice(), rt, &mut input, &mut out, &mut err);
+    let call = Call {
+        words: asked.as_slice(),
+        version: "",
+    };
+    let answer = run_words(call, rt, &mut input, &mut out, &mut err);
     let image = out.into_writer();
     Ok(answer.status() == 0 && image.as_slice() == IMAGE)
 }
