@@ -76,7 +76,8 @@ END
 
 # Writes the source of the version, if it isn't as it has to be.
 write_version() {
-    [ "$(version_text)" = "$(cat "$root/$version" 2>/dev/null)" ] || version_text | put "$root/$version"
+    text=$(version_text)
+    [ "$text" = "$(cat "$root/$version" 2>/dev/null)" ] || printf '%s\n' "$text" | put "$root/$version"
 }
 
 # The toolchain's version. Without a toolchain nothing can be built, so the one that built the program counts.
