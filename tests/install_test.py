@@ -84,7 +84,7 @@ class Made(unittest.TestCase):
         self.assertEqual(stale(PROGRAMS[0]), [], "packaging/make_manual.py writes them")
 
     def test_bash_completes_commands_options_and_files(self):
-        for words, wanted in [(["pre"], ["prepare"]), (["play", "--b"], ["--bands"]), (["show", "-"], ["--help"])]:
+        for words, wanted in [(["pre"], ["prepare"]), (["play", "--b"], ["--bands"]), (["show", "-"], ["--fit", "--help"])]:
             count = len(words)
             script = f'. "$1"; shift; COMP_WORDS=(metaplay "$@"); COMP_CWORD={count}; _metaplay; printf "%s\\n" "${{COMPREPLY[@]}}"'
             ran = subprocess.run(["bash", "-c", script, "bash", ROOT / "packaging/metaplay.bash", *words], capture_output=True, text=True, check=True)

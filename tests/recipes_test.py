@@ -3,6 +3,7 @@
 import json
 import os
 import pathlib
+import re
 import shutil
 import struct
 import subprocess
@@ -11,6 +12,7 @@ import unittest
 import zlib
 
 from built import DOT, DOT_IMAGE, PROGRAMS, ROOT, SAMPLES
+from metafile.scripts import WMF
 
 RECIPES = ROOT / "docs" / "recipes"
 
@@ -97,6 +99,8 @@ class Recipes(unittest.TestCase):
         status, out, err = self.run_words(RECIPES / "to-png", "dot.wmf", "4", "4")
         self.assertEqual((status, out[:8]), (0, b"\x89PNG\r\n\x1a\n"), err)
         self.assertEqual(png_pixels(out), (4, 4, DOT_IMAGE[-48:]))
+        # The picture is square, so it has only four of these eight columns.
+        self.assertEqual(self.run_words(RECIPES / "to-png", "dot.wmf", "8", "4"), (0, out, b""))
         self.assertEqual(self.run_words(RECIPES / "to-png", "held file.wmf", "4", "4"), (1, b"", HELD_LINE))
 
     @unittest.skipUnless(image_magick(), "ImageMagick is not on this machine")
@@ -133,12 +137,21 @@ class Recipes(unittest.TestCase):
             told = {report["file"]: report for report in map(json.loads, out.splitlines())}
             self.assertEqual((status, sorted(told)), (123, ["./dot.wmf", "./held file.wmf"]), err)
             self.assertEqual([told[name]["accepted"] for name in sorted(told)], [True, False])
-            self.assertEqual(told["./held file.wmf"]["said"], HELD_LINE.decode()[10:-1])
+            rejection = {"accepted": False, "code": 27, "fault": "HeldObject", "number": None, "record": 5}
+            self.assertEqual(told["./held file.wmf"], {"file": "./held file.wmf"} | rejection)
             self.assertTrue((self.folder / "dot.wmf.mpc").exists())
         # A certificate for smaller surfaces than those that are asked for.
         status, out, _ = self.run_words(RECIPES / "check-file", "64", "65", "dot.wmf")
         self.assertEqual((status, json.loads(out)["said"]), (1, "the certificate is for surfaces up to 64 by 64"))
         self.assertEqual(self.run_words(RECIPES / "check-file", "63", "64", "dot.wmf")[0], 0)
+        # Other faults, and a file that isn't there.
+        (self.folder / "text.wmf").write_bytes(WMF.file([WMF.record(0x0A32)], 8, 0))
+        for name, code, fault, number, record in [("metaplay", 2, "NotMetafile", None, None), ("text.wmf", 15, "Unsupported", 0x0A32, 0)]:
+            status, out, _ = self.run_words(RECIPES / "check-file", "64", "64", name)
+            report = {"file": name, "accepted": False, "code": code, "fault": fault, "number": number, "record": record}
+            self.assertEqual((status, json.loads(out)), (1, report))
+        status, out, _ = self.run_words(RECIPES / "check-file", "64", "64", "no file")
+        self.assertEqual((status, json.loads(out)), (1, {"file": "no file", "accepted": False, "said": "cannot read"}))
         # A certificate of another file is refused by the report.
         shutil.copy(self.folder / "dot.wmf.mpc", self.folder / "held file.wmf.mpc")
         (self.folder / "held file.wmf").write_bytes((SAMPLES / "lines.wmf").read_bytes())
@@ -146,6 +159,13 @@ class Recipes(unittest.TestCase):
         report = json.loads(out)
         self.assertEqual((status, report["accepted"], report["file"]), (1, False, "held file.wmf"))
         self.assertIn("fault", report)
+
+    def test_faults_have_their_codes(self):
+        told = (RECIPES / "check-file").read_text("utf-8").split("faults='")[1].split("'")[0].split()
+        page = re.findall(r"^\| (\d+) \| `(\w+)` \|", (ROOT / "docs/FAULTS.md").read_text("utf-8"), re.MULTILINE)
+        of_files = [(code, name) for code, name in page if int(code) <= 5 or 10 <= int(code) <= 37 or code == "46"]
+        self.assertEqual(list(zip(told[::2], told[1::2])), sorted(of_files, key=lambda row: int(row[0])))
+        self.assertEqual(len(of_files), 34)
 
     @needs("git", "xargs")
     def test_a_hook_of_git(self):
