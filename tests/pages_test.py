@@ -11,6 +11,8 @@ PAGES = ["README.md", "docs/PROMISES.md", "docs/LAYERS.md", "docs/DECISIONS.md",
 # Words that are neither names of this repository nor files of it.
 OTHERS = {
     "--bands ROWS": "an option of the command line",
+    "--fit": "an option of the command line",
+    "--version": "an option of the command line",
     "crates/meta_main/out/meta_main": "the built program",
     "#": "a sign of pictures",
     "?": "an operator",

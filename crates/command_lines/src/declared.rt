@@ -23,7 +23,6 @@ certified number of pixels.";
 
 /// The text below the options in the help.
 const GUIDE: &str = "Examples:
-  metaplay show drawing.wmf 400 300 > drawing.ppm
   metaplay show drawing.wmf 400 300 --fit > drawing.ppm
   metaplay prepare drawing.wmf 4096 4096 drawing.cert
   metaplay check drawing.wmf drawing.cert
