@@ -1,8 +1,7 @@
 -- What the command of a command line writes to its streams.
-use Rattle.std.specs.Prelude.{◌≡◌, ◌⊎◌, ℕ, List, Option, codes, String, ⊤}
+use Rattle.std.specs.Prelude.{◌≡◌, ◌⊎◌, ℕ, List, Option, codes, ⊤}
 use Rattle.std.specs.Io.KnownBytes.{Keeps}
 use Rattle.clap.specs.Words.{Text}
-use Rattle.std.specs.declared.alloc.Global.{Global}
 use Rattle.command_lines.specs.CommandLine.{HoldsOfAsked, texts_of}
 use Rattle.command_lines.specs.InfoWords.{AreCommandWords, HoldsOfNames, HoldsOfSomeNames}
 use Rattle.commands.specs.Ends.{PrintsBy, WritesBy}
@@ -116,13 +115,13 @@ ErrOfSome end input printed old new =
     HoldsOfAny (λ line. ErrBy end line input printed old new) (λ names. InfoPrints end printed old new) (VersionPrints end printed old new)
 
 -- the words prepare a certificate of a named file
-abbrev pub PreparesNamed : List (String Global) → Type 0
-PreparesNamed words = HoldsOfAsked (texts_of words) PreparesNamedFile
+abbrev pub PreparesNamed : Call → Type 0
+PreparesNamed call = HoldsOfAsked (texts_of call.words.now) PreparesNamedFile
 
 -- words that are right for a command are wrong usage
-pub record RejectsRight (words : List (String Global)) (answer : Completion) : Type 0 where
+pub record RejectsRight (call : Call) (answer : Completion) : Type 0 where
   pub wrong : answer.end ≡ end.WrongUsage
-  pub right : AreCommandWords (texts_of words)
+  pub right : AreCommandWords (texts_of call.words.now)
 
 module _ {W : Type 0} where
   -- what a task, a command line, given words, or some words write to a writer with these contents
@@ -148,9 +147,9 @@ module _ {W : Type 0} where
   abbrev pub PrintsLine : CommandLine → Option (List ℕ) → Completion → (W → Option (List ℕ)) → W → W → Type 0
   PrintsLine line input answer contents old new = ErrBy answer.end line input answer.printed (contents old) (contents new)
 
-  abbrev pub PrintsAsked : List (String Global) → Option (List ℕ) → Completion → (W → Option (List ℕ)) → W → W → Type 0
-  PrintsAsked words input answer contents old new =
-      ErrOfWords answer.end (texts_of words) input answer.printed (contents old) (contents new)
+  abbrev pub PrintsAsked : Call → Option (List ℕ) → Completion → (W → Option (List ℕ)) → W → W → Type 0
+  PrintsAsked call input answer contents old new =
+      ErrOfWords answer.end (texts_of call.words.now) input answer.printed (contents old) (contents new)
 
   abbrev pub PrintsSome : Option (List ℕ) → Completion → (W → Option (List ℕ)) → W → W → Type 0
   PrintsSome input answer contents old new = ErrOfSome answer.end input answer.printed (contents old) (contents new)

@@ -1,9 +1,9 @@
 -- When an output failed, and when it was flushed.
-use Rattle.std.specs.Prelude.{◌≡◌, ◌≢◌, ◌<◌, ℕ, Bool, List, OnErr, String, true}
-use Rattle.std.specs.declared.alloc.Global.{Global}
+use Rattle.std.specs.Prelude.{◌≡◌, ◌≢◌, ◌<◌, ℕ, Bool, OnErr, true}
 use Rattle.command_lines.specs.CommandLine.{texts_of}
 use Rattle.commands.specs.Lines.{HoldsOfAny, HoldsOfWords}
 use Rattle.commands.specs.declared.command_end.Completion.{Completion}
+use Rattle.commands.specs.declared.program.Call.{Call}
 use Rattle.commands.specs.declared.command_end.CommandEnd.TheVariants as end
 use Rattle.command_lines.specs.declared.asked.CommandLine.{CommandLine}
 use Rattle.command_lines.specs.declared.asked.CommandLine.TheVariants.{Prepare}
@@ -24,11 +24,11 @@ module _ {W : Type 0} where
   OutputFlushed flushed old new line = flushed new ≡ true
 
   -- the output of the command failed, or was flushed, for a command that the words ask for
-  abbrev pub FailsAsked : List (String Global) → (W → ℕ) → W → W → Type 0
-  FailsAsked words count old new = HoldsOfWords (texts_of words) (OutputFailed count old new) (λ names. Rises count old new) (Rises count old new)
+  abbrev pub FailsAsked : Call → (W → ℕ) → W → W → Type 0
+  FailsAsked call count old new = HoldsOfWords (texts_of call.words.now) (OutputFailed count old new) (λ names. Rises count old new) (Rises count old new)
 
-  abbrev pub FlushesAsked : List (String Global) → (W → Bool) → W → W → Type 0
-  FlushesAsked words flushed old new = HoldsOfWords (texts_of words) (OutputFlushed flushed old new) (λ names. flushed new ≡ true) (flushed new ≡ true)
+  abbrev pub FlushesAsked : Call → (W → Bool) → W → W → Type 0
+  FlushesAsked call flushed old new = HoldsOfWords (texts_of call.words.now) (OutputFlushed flushed old new) (λ names. flushed new ≡ true) (flushed new ≡ true)
 
   -- for some command
   abbrev pub FailsSome : (W → ℕ) → W → W → Type 0

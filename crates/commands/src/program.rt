@@ -100,13 +100,13 @@ where
     requires capacity_out { O.fault_count out.old < 2 ^ 64 - 1 }
     requires capacity_err { E.fault_count err.old < 2 ^ 64 - 1 }
     ensures written { WritesAsked call.entry (I.remaining input.old) result O.contents out.old out.new }
-    ensures printed { PrintsAsked call.entry.words.now (I.remaining input.old) result E.contents err.old err.new }
-    ensures usage_words { RejectsRight call.entry.words.now result → PreparesNamed call.entry.words.now }
-    ensures usage_wrong { RejectsRight call.entry.words.now result → ReportsSameFile result E.contents err.old err.new }
-    ensures usage_unwritten { RejectsRight call.entry.words.now result → Keeps (O.contents out.old) (O.contents out.new) }
+    ensures printed { PrintsAsked call.entry (I.remaining input.old) result E.contents err.old err.new }
+    ensures usage_words { RejectsRight call.entry result → PreparesNamed call.entry }
+    ensures usage_wrong { RejectsRight call.entry result → ReportsSameFile result E.contents err.old err.new }
+    ensures usage_unwritten { RejectsRight call.entry result → Keeps (O.contents out.old) (O.contents out.new) }
     ensures usage_unread { result.end ≡ CommandEnd.WrongUsage → Keeps (I.remaining input.old) (I.remaining input.new) }
-    ensures cannot_write { result.end ≡ CommandEnd.CannotWrite → FailsAsked call.entry.words.now O.fault_count out.old out.new }
-    ensures flushed { result.end ≡ CommandEnd.Done → FlushesAsked call.entry.words.now O.is_flushed out.old out.new }
+    ensures cannot_write { result.end ≡ CommandEnd.CannotWrite → FailsAsked call.entry O.fault_count out.old out.new }
+    ensures flushed { result.end ≡ CommandEnd.Done → FlushesAsked call.entry O.is_flushed out.old out.new }
     ensures unreported { IsUnreported result E.fault_count err.old err.new }
     ensures unshown { OnErr result.printed (Rises E.fault_count err.old err.new ⊎ Rises O.fault_count out.old out.new) }
 {

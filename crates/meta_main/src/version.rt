@@ -2,4 +2,4 @@
 
 /// The line that `--version` writes: the version, and the checksum of all sources but this one.
 pub(crate) const VERSION: &str =
-    "metaplay 1.0.0 (sources c9a2505ca8214a5abda64959b3de44907b08577d6d06dae037c4d9024a8e8358)\n";
+    "metaplay 1.0.0 (sources 63f6f835d18d8439237f130fc293b0a4255fab80c8f464def7edebe263571647)\n";
