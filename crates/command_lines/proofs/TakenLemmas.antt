@@ -125,7 +125,7 @@ bands_fit_taken file f certificate c wide w high h word b rows r last t =
     of_usage (codes "play") play_app.top (name ∷ name ∷ side ∷ side ∷ bands ∷ side ∷ fit ∷ []) (file ∷ certificate ∷ wide ∷ high ∷ word ∷ rows ∷ last ∷ []) (f, (c, (w, (h, (b, (r, (t, tt))))))) refl
     (λ program passes. ap (λ (b : Bool). b && true) passes) (λ program. refl)
     (ap₂ (λ (a b : Bool). ((a && true) && (((b && true) && true) && ((((is_signed_in (pos 1) (pos surface_side_limit) rows && true) && true) && true) && true))) && true) (side_passes wide w) (side_passes high h)
-    ∙ ap (λ (b : Bool). (((b && true) && true) && true) && true) (side_passes rows r))
+    ∙ ap (λ (b : Bool). ((((b && true) && true) && true) && true) && true) (side_passes rows r))
     (refl, (refl, (side_given _ (codes "W") wide refl w, (side_given _ (codes "H") high refl h, ((λ some. side_given _ (codes "ROWS") rows refl r), (tt, tt))))))
 
 fit_bands_taken : OfKinds (name ∷ name ∷ side ∷ side ∷ fit ∷ bands ∷ side ∷ []) (IsTaken (codes "play"))
@@ -180,9 +180,25 @@ abbrev BeginsOtherwise : Text × List ArgumentKind → Type 0
 BeginsOtherwise usage = are_apart (first_byte usage.0) (first_byte (codes "info"))
 
 none_is_info : All BeginsOtherwise usages
-none_is_info = all_of BeginsOtherwise usages
-    ((λ e. omega (arith, e)), ((λ e. omega (arith, e)), ((λ e. omega (arith, e)), ((λ e. omega (arith, e)), ((λ e. omega (arith, e)), ((λ e. omega (arith, e)),
-    ((λ e. omega (arith, e)), ((λ e. omega (arith, e)), ((λ e. omega (arith, e)), ((λ e. omega (arith, e)), ((λ e. omega (arith, e)), tt)))))))))))
+none_is_info = all_of BeginsOtherwise usages (
+  (λ e. omega (arith, e)),
+  (
+    (λ e. omega (arith, e)),
+    (
+      (λ e. omega (arith, e)),
+      (
+        (λ e. omega (arith, e)),
+        (
+          (λ e. omega (arith, e)),
+          (
+            (λ e. omega (arith, e)),
+            ((λ e. omega (arith, e)), ((λ e. omega (arith, e)), ((λ e. omega (arith, e)), ((λ e. omega (arith, e)), ((λ e. omega (arith, e)), tt))))),
+          ),
+        ),
+      ),
+    ),
+  ),
+)
 
 is_taken : (words : List Text) (right : AreRightWords words) → IsTaken right.command right.arguments
 is_taken words right =

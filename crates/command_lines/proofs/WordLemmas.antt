@@ -84,10 +84,9 @@ given_words : (line : CommandLine) (program file wide high : Text) → IsPlainWo
 given_words (Show name width height fit) program file wide high plain_file plain_wide plain_high asked =
     let rows = shown_rows program file wide high plain_file plain_wide plain_high in
     let same = same_rows _ _ _ _ _ asked.command rows in
-    let unset : one_of (codes "fit") asked.given ≡ Some (codes "false") = ap (one_of (codes "fit")) same in
-    (
-      by_rows _ (given_all file wide high) asked.given file wide high name.now width height plain_wide plain_high rows refl refl refl asked.command asked.gives.0 asked.gives.1.0,
-      asked.gives.1.1.unset unset,
+    let unset : one_of (codes "fit") asked.given ≡ Some (codes "false") = ap (one_of (codes "fit")) same in (
+      by_rows _ (given_all file wide high) asked.given file wide high name.now width height plain_wide plain_high rows refl refl refl asked.command asked.gives.0 asked.gives.1,
+      asked.gives.2.unset unset,
     )
 given_words (Prepare name width height output) program file wide high plain_file plain_wide plain_high asked =
     let rows = shown_rows program file wide high plain_file plain_wide plain_high in

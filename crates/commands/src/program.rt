@@ -46,13 +46,7 @@ pub struct Call<'a> {
 }
 
 /// Runs the program, which writes this line if it is asked for its version.
-pub fn run<R, I, O, E>(
-    rt: &R,
-    version: &str,
-    input: &mut I,
-    out: &mut O,
-    err: &mut E,
-) -> Completion
+pub fn run<R, I, O, E>(rt: &R, version: &str, input: &mut I, out: &mut O, err: &mut E) -> Completion
 where
     R: Env + Files + AllocGlobal,
     I: Read,

@@ -79,7 +79,10 @@ fn shown(width: u32, height: u32) -> CommandLine<'static> {
 
 #[test]
 fn a_command_line_asks_for_the_proportion(rt: HostRuntime) -> Result<(), Fail> {
-    let shown = words(rt.alloc(), &["metaplay", "show", "a.wmf", "4", "5", "--fit"])?;
+    let shown = words(
+        rt.alloc(),
+        &["metaplay", "show", "a.wmf", "4", "5", "--fit"],
+    )?;
     let want = CommandLine::Show {
         file: "a.wmf",
         width: 4,
@@ -91,7 +94,9 @@ fn a_command_line_asks_for_the_proportion(rt: HostRuntime) -> Result<(), Fail> {
         let [first, second, third] = options;
         let played = words(
             rt.alloc(),
-            &["metaplay", "play", "a.wmf", "a.cert", "4", "5", first, second, third],
+            &[
+                "metaplay", "play", "a.wmf", "a.cert", "4", "5", first, second, third,
+            ],
         )?;
         let want = CommandLine::Play {
             file: "a.wmf",

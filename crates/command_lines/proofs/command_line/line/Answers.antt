@@ -1,5 +1,5 @@
 -- What the words ask for follows from what clap finds in them.
-use Rattle.std.proofs.Common.{◌≡◌, ◌∙◌, ◌⊎◌, inl, inr, List, Option, Result, Ok, Err, IfErr, IfSome, IsSome, IsErrAnd, ap, false, map, string_bytes, subst, sym, true}
+use Rattle.std.proofs.Common.{◌≡◌, ◌∙◌, ◌⊎◌, inl, inr, Bool, List, Option, Result, Ok, Err, IfErr, IfSome, IsSome, IsErrAnd, ap, false, map, string_bytes, subst, sym, true}
 use Rattle.clap.specs.Words.{App, Row, Text, app_of, is_simple, kind_of, subcommand_of, subcommand_rows_of, takes}
 use Rattle.clap.specs.declared.error.Error.{Error}
 use Rattle.clap.specs.declared.error.kind.ErrorKind.TheVariants.{OutOfMemory}
@@ -8,22 +8,26 @@ use Rattle.command_lines.specs.CommandLine.{metaplay_app, texts_of}
 use Rattle.command_lines.specs.InfoWords.{AreCommandWords}
 use Rattle.command_lines.specs.declared.asked.Asked.{Asked}
 use Rattle.command_lines.proofs.InfoLemmas.{command_words_found, command_words_taken, few_texts}
-use Rattle.command_lines.proofs.WordLemmas.{plain_words}
+use Rattle.command_lines.proofs.WordLemmas.{asked_for, plain_words}
 use Rattle.command_lines.proofs.command_line.line.Goals as goal
+
+-- the words don't ask for the version
+no_version : {A : Type 0} (asks : Bool) → asks ≡ false → (asks ≡ true → A) × (A → asks ≡ true) → A → ⊥
+no_version asks is ensures asked = let bad : asks ≡ true = ensures.1 asked in cc
 
 pub returns-in-Some-clause-asked : goal.returns-in-Some-clause-asked
 returns-in-Some-clause-asked c =
     let app : app_of c.in_ok-command.command ≡ metaplay_app = c.in_ok-command.ensures in
     let met : subcommand_rows_of c.in_ok-matches.matches ≡ subcommand_of metaplay_app (texts_of c.args.words.now) =
     (c.in_ok-matches.ensures.ok.2 (ap is_simple app)).1 ∙ ap (λ (a : App). subcommand_of a (texts_of c.args.words.now)) app in
-    subst (λ (rows : Option (Text × List Row)). IsFound rows c.in-Some.asked) met (subst (λ (found : Option Asked). IfSome found (IsFound (subcommand_rows_of c.in_ok-matches.matches))) c.in-Some.is c.in_ok-asked.ensures.asked)
+    asked_for (texts_of c.args.words.now) c.in-Some.asked (subst (λ (rows : Option (Text × List Row)). IsFound rows c.in-Some.asked) met (subst (λ (found : Option Asked). IfSome found (IsFound (subcommand_rows_of c.in_ok-matches.matches))) c.in-Some.is c.in_ok-asked.ensures.asked))
 
 pub returns-in-Some-clause-plain : goal.returns-in-Some-clause-plain
 returns-in-Some-clause-plain c =
     let app : app_of c.in_ok-command.command ≡ metaplay_app = c.in_ok-command.ensures in
     let met : subcommand_rows_of c.in_ok-matches.matches ≡ subcommand_of metaplay_app (texts_of c.args.words.now) =
     (c.in_ok-matches.ensures.ok.2 (ap is_simple app)).1 ∙ ap (λ (a : App). subcommand_of a (texts_of c.args.words.now)) app in
-    plain_words (texts_of c.args.words.now) c.in-Some.asked (subst (λ (rows : Option (Text × List Row)). IsFound rows c.in-Some.asked) met (subst (λ (found : Option Asked). IfSome found (IsFound (subcommand_rows_of c.in_ok-matches.matches))) c.in-Some.is c.in_ok-asked.ensures.asked))
+    plain_words (texts_of c.args.words.now) c.in-Some.asked (asked_for (texts_of c.args.words.now) c.in-Some.asked (subst (λ (rows : Option (Text × List Row)). IsFound rows c.in-Some.asked) met (subst (λ (found : Option Asked). IfSome found (IsFound (subcommand_rows_of c.in_ok-matches.matches))) c.in-Some.is c.in_ok-asked.ensures.asked)))
 
 -- `?` returns an error unchanged
 passed_up : {T E : Type 0} (r : Result T E) (e : E) (P : E → Type 0) → IsErrAnd r (λ y. y ≡ e) → P e → IfErr r P
@@ -34,7 +38,7 @@ pub returns-in_err-matches-clause-taken : goal.returns-in_err-matches-clause-tak
 returns-in_err-matches-clause-taken c =
     let app : app_of c.in_ok-command.command ≡ metaplay_app = c.in_ok-command.ensures in
     let memory : AreCommandWords (texts_of c.args.words.now) → kind_of c.in_err-matches.field-0.0 ≡ OutOfMemory = λ right.
-    c.in_err-matches.ensures.passes (ap (λ (a : App). takes a (texts_of c.args.words.now)) app ∙ command_words_taken (texts_of c.args.words.now) right (few_texts c.args.words.now c.count_law.ensures)) in
+    c.in_err-matches.ensures.passes (ap (λ (a : App). takes a (texts_of c.args.words.now)) app ∙ command_words_taken (texts_of c.args.words.now) (no_version c.asks_version.result c.if-asks_version.false c.asks_version.ensures) right (few_texts c.args.words.now c.count_law.ensures)) in
     passed_up c.from_residual-in_err-matches.result c.in_err-matches.field-0.0 (λ (error : Error). AreCommandWords (texts_of c.args.words.now) → kind_of error ≡ OutOfMemory) c.from_residual-in_err-matches.ensures.1 memory
 
 pub returns-clause-taken : goal.returns-clause-taken
@@ -42,5 +46,5 @@ returns-clause-taken c = λ right.
     let app : app_of c.in_ok-command.command ≡ metaplay_app = c.in_ok-command.ensures in
     let met : subcommand_rows_of c.in_ok-matches.matches ≡ subcommand_of metaplay_app (texts_of c.args.words.now) =
     (c.in_ok-matches.ensures.ok.2 (ap is_simple app)).1 ∙ ap (λ (a : App). subcommand_of a (texts_of c.args.words.now)) app in
-    let bad : false ≡ true = command_words_found (texts_of c.args.words.now) _ false met (λ right other. subst IsSome c.in-None.is (c.in_ok-asked.ensures.command_taken right other)) (λ info. subst IsSome c.in-None.is (c.in_ok-asked.ensures.info_taken info)) right in
+    let bad : false ≡ true = command_words_found (texts_of c.args.words.now) _ false met (λ right other. subst IsSome c.in-None.is (c.in_ok-asked.ensures.command_taken right other)) (λ info. subst IsSome c.in-None.is (c.in_ok-asked.ensures.info_taken info)) (no_version c.asks_version.result c.if-asks_version.false c.asks_version.ensures) right in
     cc
