@@ -63,6 +63,25 @@ class Installation(unittest.TestCase):
         self.assertEqual(launched("uninstall", "/usr", DESTDIR=str(self.folder)), Answer(0, b"", b""))
         self.assertEqual(files_in(self.folder), {})
 
+    @unittest.skipUnless(all(map(shutil.which, ["dpkg-deb", "strip", "objdump"])), "the tools of Debian's packages are not on this machine")
+    def test_a_debian_package(self):
+        package, whole = self.folder / "metaplay.deb", self.folder / "whole"
+        maintainer = {"DEBFULLNAME": "Some Packager", "DEBEMAIL": "packager@example.com", "SOURCE_DATE_EPOCH": "1700000000"}
+        made = [ROOT / "packaging/make_deb", package]
+        subprocess.run(made, check=True, env={**os.environ, **maintainer})
+        first = package.read_bytes()
+        subprocess.run(made, check=True, env={**os.environ, **maintainer})
+        self.assertEqual(package.read_bytes(), first)
+        subprocess.run(["dpkg-deb", "-x", package, whole], check=True)
+        compressed = {"share/man/man1/metaplay.1": "share/man/man1/metaplay.1.gz"}
+        wanted = {compressed.get(name, name): is_program for name, is_program in INSTALLED.items()} | {"share/doc/metaplay/changelog.gz": False}
+        self.assertEqual(files_in(whole / "usr"), wanted)
+        self.assertEqual(answer(whole / "usr/bin/metaplay", ["show", "stdin", "4", "4"], DOT), Answer(0, DOT_IMAGE, b""))
+        if shutil.which("lintian"):
+            told = subprocess.run(["lintian", "--allow-root", package], capture_output=True, text=True, check=False).stdout
+            # The licence isn't chosen yet.
+            self.assertEqual([line for line in told.splitlines() if line.startswith("E:")], ["E: metaplay: no-copyright-file"])
+
     def test_wrong_words_install_nothing(self):
         usage = b"metaplay: usage: metaplay install PREFIX, or metaplay uninstall PREFIX; PREFIX is an absolute path\n"
         for words in ([], [""], ["usr"], [str(self.folder), "more"]):
