@@ -1,10 +1,14 @@
 -- What a command that was parsed writes is what the words write.
-use Rattle.std.proofs.Common.{inl, inr, subst}
+use Rattle.std.proofs.Common.{◌≡◌, inl, inr, subst}
 use Rattle.std.proofs.lemmas.Result.{on_err_weaker}
 use Rattle.command_lines.specs.Asked.{IsAskedFor, IsValid}
 use Rattle.command_lines.specs.CommandLine.{texts_of}
 use Rattle.command_lines.specs.InfoWords.{names_in}
 use Rattle.commands.proofs.LineLemmas.{err_of_line, err_of_names, err_of_version, holds_of_line, holds_of_names, never_usage, out_of_line, out_of_names, out_of_version, usage_done, usage_failed, usage_of_line, version_is_right}
+use Rattle.clap.specs.declared.error.kind.ErrorKind.{ErrorKind}
+use Rattle.clap.specs.declared.error.kind.ErrorKind.TheVariants.{OutOfMemory}
+use Rattle.commands.specs.declared.command_end.CommandEnd.{CommandEnd}
+use Rattle.commands.specs.declared.command_end.CommandEnd.TheVariants as end
 use Rattle.commands.proofs.program.run_words.Goals as goal
 
 pub returns-in-Ok-Command-clause-written : goal.returns-in-Ok-Command-clause-written
@@ -92,6 +96,19 @@ returns-in-Ok-Version-clause-usage_unread g c = λ wrong. version_is_right c.ver
 
 pub returns-in-Ok-Version-clause-unshown : goal.returns-in-Ok-Version-clause-unshown
 returns-in-Ok-Version-clause-unshown g c = on_err_weaker c.version_command.result.printed inl c.version_command.ensures.unreported
+
+-- if words are right, parsing them fails only because memory ran out, and that isn't wrong usage
+never_wrong : {A P : Type 0} (e : CommandEnd) (kind : ErrorKind) → (A → kind ≡ OutOfMemory) → (e ≡ end.OutOfMemory → kind ≡ OutOfMemory) × (kind ≡ OutOfMemory → e ≡ end.OutOfMemory) → A → e ≡ end.WrongUsage → P
+never_wrong e kind taken memory right wrong = let is : e ≡ end.OutOfMemory = memory.1 (taken right) in absurd cc
+
+pub returns-in-Err-clause-usage_words : goal.returns-in-Err-clause-usage_words
+returns-in-Err-clause-usage_words g c = λ rejects. never_wrong c.usage.result.end _ c.in-Err.ensures.taken c.usage.ensures.memory rejects.right rejects.wrong
+
+pub returns-in-Err-clause-usage_wrong : goal.returns-in-Err-clause-usage_wrong
+returns-in-Err-clause-usage_wrong g c = λ rejects. never_wrong c.usage.result.end _ c.in-Err.ensures.taken c.usage.ensures.memory rejects.right rejects.wrong
+
+pub returns-in-Err-clause-usage_unwritten : goal.returns-in-Err-clause-usage_unwritten
+returns-in-Err-clause-usage_unwritten g c = λ rejects. never_wrong c.usage.result.end _ c.in-Err.ensures.taken c.usage.ensures.memory rejects.right rejects.wrong
 
 pub returns-in-Err-clause-cannot_write : goal.returns-in-Err-clause-cannot_write
 returns-in-Err-clause-cannot_write g c = usage_failed c.usage.result.end _ c.usage.ensures.ends
