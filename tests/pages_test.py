@@ -27,6 +27,7 @@ OTHERS = {
     "install": "a word of the launcher",
     "malloc": "a call of the C library's",
     "proofs/": "a folder of each crate",
+    "packaging/make_deb FILE": "a command of a packager",
     "python3": "a program",
     "realloc": "a call of the C library's",
     "rattle-kit-13f logic dac8208d650f15bf": "a version of the toolchain",
