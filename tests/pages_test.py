@@ -13,6 +13,7 @@ OTHERS = {
     "--bands ROWS": "an option of the command line",
     "--fit": "an option of the command line",
     "--version": "an option of the command line",
+    "-V": "an option of the command line",
     "crates/meta_main/out/meta_main": "the built program",
     "#": "a sign of pictures",
     "?": "an operator",
