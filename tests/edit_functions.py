@@ -96,6 +96,28 @@ def functions(crate, sources, path):
     return found
 
 
+def can_stay_unproved(text, function):
+    """Whether the prover can be told to leave a function's goals: not of a trait's functions, most of which have no body, nor of one that has an
+    attribute about its proof."""
+    traits = [it for it in BLOCK.finditer(text) if it["kind"] == "trait"]
+    if any(it.start() <= function.start < end_of(text, it.end(), "") for it in traits):
+        return False
+    attributes = re.search(r"(?m)(?:^ *(?:#\[.*|///.*)\n)*\Z", text[: function.start])[0]
+    return "#[tactic(" not in attributes
+
+
+def unproved(crate, sources, asked):
+    """The texts of a crate's files in which the prover leaves the goals of functions, but for those that are asked, and the names of the others."""
+    texts, others = dict(sources), set()
+    for path, text in sources.items():
+        left = [it for it in functions(crate, sources, path) if it.name not in asked and can_stay_unproved(text, it)]
+        for it in reversed(left):
+            indent = re.match(" *", text[it.start :])[0]
+            texts[path] = f"{texts[path][: it.start]}{indent}#[tactic(none)]\n{texts[path][it.start :]}"
+        others |= {it.name for it in left}
+    return texts, others
+
+
 def pairs(edit):
     """The pairs of an edit's text: the file, the text that stands in it, and what takes its place."""
     path = old = None

@@ -17,7 +17,7 @@ import tempfile
 from typing import NamedTuple
 
 import edit_verdicts
-from edit_functions import changed_functions, named_functions, pairs
+from edit_functions import changed_functions, named_functions, pairs, unproved
 from edit_rounds import Edit, beside, placed_in, rounds_of
 
 # An edit that changes nothing and one that is right: the judge has to say that neither was refused.
@@ -64,28 +64,33 @@ def sources_of(crate):
 
 
 @contextlib.contextmanager
-def copy_of(crate, texts):
-    """A copy of a crate with these texts of its sources, in a folder of its own."""
+def copy_of(crate, texts, unanswered=()):
+    """A copy of a crate with these texts of its sources, in a folder of its own, without the answers to the goals of some functions."""
     with tempfile.TemporaryDirectory(prefix="edit-") as room:
         for part in rt.rtlib.PARTS:
             if os.path.isdir(f"{crate.folder}/{part}"):
                 shutil.copytree(f"{crate.folder}/{part}", f"{room}/{part}")
         for path, text in texts.items():
             pathlib.Path(room, path).write_text(text, encoding="utf-8")
+        for name in unanswered:
+            pathlib.Path(room, "proofs", *name.split("::")[1:], "Answers.antt").unlink(missing_ok=True)
         yield room
 
 
 class Answer(NamedTuple):
-    """What the prover said, and the status with which it ended."""
+    """What the prover said, the status with which it ended, and the functions that it was told to leave unproved."""
 
     status: int
     said: str
+    unproved: set
 
 
 def check(trying, texts, functions):
-    """What the prover says of these functions of a crate, or of all where none is named, with these texts in place of its own."""
+    """What the prover says of these functions of a crate, or of all where none is named, with these texts in place of its own. What the named ones
+    call is left unproved, since it counts by its contract alone."""
     words = [word for name in functions for word in ("--only", name)]
-    with copy_of(trying.crate, texts) as room, tempfile.TemporaryFile("w+", errors="replace") as said:
+    texts, others = unproved(trying.crate.name, texts, functions) if functions else (texts, set())
+    with copy_of(trying.crate, texts, others) as room, tempfile.TemporaryFile("w+", errors="replace") as said:
         words = ["check", *trying.crate.words(["--jobs", "1", *words], keeps=False), "--incremental", trying.kept]
         how = {"cwd": room, "stdin": subprocess.DEVNULL, "stdout": said, "stderr": subprocess.STDOUT}
         ran = subprocess.Popen([*rt.rtlib.guarded(), rt.rtlib.RATTLE, *words], **how)
@@ -93,7 +98,7 @@ def check(trying, texts, functions):
         ran.returncode = os.waitstatus_to_exitcode(status)
         trying.used.append(used)
         said.seek(0)
-        return Answer(ran.returncode, said.read())
+        return Answer(ran.returncode, said.read(), others)
 
 
 def files_of(edits):
@@ -108,7 +113,7 @@ def refused_by(ran, last, edits):
     changed = files_of(edits)
     if ran.status != 1 or not lines[-1].startswith(last) or any(rt.unread(line, changed) for line in lines):
         return None
-    return edit_verdicts.refused(ran.said)
+    return edit_verdicts.refused(ran.said) - ran.unproved
 
 
 class Trying:

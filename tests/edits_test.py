@@ -3,7 +3,7 @@
 import pathlib
 import unittest
 
-from edit_functions import changed_functions, functions, named_functions, pairs
+from edit_functions import changed_functions, functions, named_functions, pairs, unproved
 from edit_rounds import Edit, beside, parts_of, placed_in, rounds_of
 from edit_verdicts import is_refused, refused
 
@@ -127,6 +127,27 @@ class ChangedFunctions(unittest.TestCase):
         """A line 'new:' without a text takes the old text away, and one space behind the colon isn't part of it."""
         text = "file: src/lib.rt\nold: a\nnew:\nold: b\nnew:  c\n"
         self.assertEqual(list(pairs(text)), [("src/lib.rt", "a", ""), ("src/lib.rt", "b", " c")])
+
+
+class Unproved(unittest.TestCase):
+    """The texts in which the prover leaves other functions than those that are asked."""
+
+    def test_others_are_left(self):
+        """Each other function has the attribute on a line of its own, as far in as the function, and a trait's functions have none."""
+        texts, others = unproved("shapes", SOURCES, ["shapes::sides::Side::area"])
+        self.assertEqual(texts["src/lib.rt"], SOURCES["src/lib.rt"].replace("pub fn twice", "#[tactic(none)]\npub fn twice"))
+        self.assertEqual(texts["src/sides.rt"].count("    #[tactic(none)]\n    fn half(self)"), 1)
+        self.assertIn("\n\n    fn area(self)", texts["src/sides.rt"])
+        self.assertEqual(texts["src/sides.rt"].count("tactic"), 3)
+        every = {it.name for path in SOURCES for it in functions("shapes", SOURCES, path)}
+        self.assertEqual(others, every - {"shapes::sides::Side::area", "shapes::Half::half"})
+
+    def test_a_function_with_such_an_attribute_stays(self):
+        """The prover takes no second attribute about a function's proof; others may stand before the function."""
+        text = "/// One.\n#[tactic(using(one))]\n#[inline]\npub fn one() {}\n\n/// Two.\n#[inline]\nfn two() {}\n"
+        texts, others = unproved("shapes", {"src/lib.rt": text}, [])
+        self.assertEqual(texts, {"src/lib.rt": text.replace("fn two", "#[tactic(none)]\nfn two")})
+        self.assertEqual(others, {"shapes::two"})
 
 
 class Verdicts(unittest.TestCase):
