@@ -4,5 +4,5 @@ pub mod Fitted
 pub mod Outcomes
 pub mod Plays
 pub mod Prepares
-pub mod SplitText
+pub mod Split
 pub mod Texts

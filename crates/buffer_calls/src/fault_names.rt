@@ -1,6 +1,7 @@
 //! The names of faults by their codes.
 
-ghost use Rattle.std.specs.Prelude.{◌≡◌, IfSome, None};
+ghost use Rattle.std.specs.Prelude.{◌≡◌, ◌≤◌, IfSome, None};
+ghost use Rattle.draw_ops.specs.FaultTable.{fault_row};
 ghost use Rattle.buffer_calls.specs.FaultNames.{EndsName, IsNameOf, IsNoCode};
 
 use crate::copying::copy_text;
@@ -68,7 +69,16 @@ pub fn fault_name(code: u32) -> Option<&'static str>
     if code == 0 || code > 47 {
         return None;
     }
-    Some(FAULTS[code as usize - 1].name())
+    Some(fault_with(code).name())
+}
+
+/// The fault with this code.
+fn fault_with(code: u32) -> Fault
+    requires first { 1 ≤ code }
+    requires last { code ≤ 47 }
+    ensures { (fault_row result).code ≡ code }
+{
+    FAULTS[code as usize - 1]
 }
 
 /// Copies the name of the fault with this code to the start of a buffer, without a zero byte after it. `None` exactly

@@ -26,7 +26,7 @@ mod playing;
 mod preparing;
 mod sample_writer;
 mod samples;
-mod split_text;
+mod split;
 mod target;
 
 pub use checking::check_bytes;

@@ -46,12 +46,7 @@ pub fn play_into(
 }
 
 /// Plays a cleared file, in the same way.
-fn play_cleared(
-    alloc: Global,
-    cleared: &Cleared<'_>,
-    surface: Sides,
-    out: &mut [u8],
-) -> Outcome
+fn play_cleared(alloc: Global, cleared: &Cleared<'_>, surface: Sides, out: &mut [u8]) -> Outcome
     requires { is_bound surface.width surface.height ≡ true }
     ensures { EndsCleared cleared.now surface.width surface.height out.old out.new result }
 {

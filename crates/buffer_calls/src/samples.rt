@@ -7,13 +7,13 @@ ghost use Rattle.buffer_calls.specs.Plays.{HasClearedSamples};
 
 use crate::header_length::header_length;
 use crate::sample_writer::SampleWriter;
-use crate::split_text::{HEADER_CAPACITY, SplitText};
+use crate::split::{HEADER_CAPACITY, Split};
 use crate::target::Target;
 use canvas::OutOfMemory;
 use draw_ops::Fault;
 use mapping::Colour;
 use player::play_bands_to;
-use preflight_cert::Cleared;
+use preflight_cert::{Cleared, rows_law};
 use proportions::Sides;
 use std::alloc::Global;
 use std::marker::{Brand, PhantomData};
@@ -58,30 +58,42 @@ fn write_samples<T: Target>(
     requires high { 1 ≤ surface.height }
     requires within { IsWithinBound cleared.now.certificate surface.width surface.height }
     requires size { length samples.old ≡ 3 * surface.width * surface.height }
-    requires loan { samples.entry.ghost_name ≡ T.loan }
     requires start { samples.old ≡ T.start }
     requires header { length (header surface.width surface.height) ≡ T.header_length }
     ensures done { OnOk result (HasClearedSamples cleared.now surface.width surface.height samples.new) }
     ensures kept { OnErr result (samples.new ≡ samples.old) }
 {
-    let text = SplitText {
+    rows_law();
+    let split = Split {
         header: [0; HEADER_CAPACITY],
         header_length: header_length(surface.width, surface.height),
-        samples,
         written: 0,
     };
     let mut writer = SampleWriter::<T> {
-        text,
+        samples,
+        split,
         faults: 0,
         flushed: false,
         target: PhantomData,
     };
     let (width, height) = (surface.width, surface.height);
     let rows = band_rows(width);
-    match play_bands_to(alloc, cleared, width, height, Colour::WHITE, rows, &mut writer) {
+    match play_bands_to(
+        alloc,
+        cleared,
+        width,
+        height,
+        Colour::WHITE,
+        rows,
+        &mut writer,
+    ) {
         Ok(_) => Ok(()),
-        // The writer fails only if it is full, and then it has all samples.
-        Err(Fault::WriteFault) => Ok(()),
-        Err(_) => Err(OutOfMemory),
+        Err(fault) => {
+            // The writer fails only if it is full, and then it has all samples.
+            if fault == Fault::WriteFault {
+                return Ok(());
+            }
+            Err(OutOfMemory)
+        }
     }
 }

@@ -4,12 +4,9 @@ ghost use Rattle.std.specs.Prelude.{ℕ, List, []};
 
 use std::marker::Brand;
 
-/// The buffer that a writer borrowed, and the header that it leaves out. Code that is generic over writers can't change
-/// these, since they belong to the writer's type.
+/// What a writer's buffer held at first, and how long the header is that the writer leaves out. These belong to the
+/// writer's type, so that code which is generic over writers can't change them.
 pub(crate) trait Target {
-    /// The identity of the borrow.
-    ghost loan: { ℕ };
-
     /// What the buffer held at first.
     ghost start: { List ℕ };
 
@@ -18,8 +15,6 @@ pub(crate) trait Target {
 }
 
 impl Target for Brand {
-    ghost loan = { 0 };
-
     ghost start = { [] };
 
     ghost header_length = { 0 };
