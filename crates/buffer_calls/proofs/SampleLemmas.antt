@@ -1,5 +1,5 @@
 -- What a writer of samples holds after a whole text, after a prefix that fills it, and after nothing.
-use Rattle.std.proofs.Common.{◌≡◌, ◌≤◌, ◌∙◌, ℕ, ◌+◌, ◌-◌, ◌*◌, List, [], ◌∷◌, ◌++◌, length, take, drop, min, ap, arith, refl, subst, sym, length-append, append-nil}
+use Rattle.std.proofs.Common.{◌≡◌, ◌≤◌, ◌∙◌, ℕ, ◌+◌, ◌-◌, ◌*◌, List, [], ◌∷◌, ◌++◌, length, take, drop, ap, arith, refl, subst, sym, length-append, append-nil}
 use Rattle.std.proofs.Math.Nat.{mul_assoc, mul_comm}
 use Rattle.std.proofs.lemmas.List.{drop_at, length-replicate, length-take, length-take-le, nil_from_length, take_all}
 use Rattle.mapping.specs.Colours.{white_colour}

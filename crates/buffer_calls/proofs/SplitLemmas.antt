@@ -1,5 +1,5 @@
 -- How a text grows whose first bytes are in an array and the others in a buffer.
-use Rattle.std.proofs.Common.{◌≡◌, ◌≤◌, ◌∙◌, ℕ, ◌+◌, ◌-◌, List, ◌++◌, length, take, drop, ap, append_assoc, arith, rules, subst, sym, length-append}
+use Rattle.std.proofs.Common.{◌≡◌, ◌≤◌, ◌∙◌, ℕ, ◌+◌, ◌-◌, List, ◌++◌, length, take, drop, ap, append_assoc, arith, subst, sym, length-append}
 use Rattle.std.proofs.lemmas.List.{drop-drop, length-take-le, take-append-drop, take_at}
 
 -- what was written is header and the buffer's first bytes

@@ -1,5 +1,5 @@
 -- Answers in the form that C has.
-use Rattle.std.specs.Prelude.{◌≡◌, ℕ, Bool, false, List, Option, Some, None, is_some, Result, Ok, Err}
+use Rattle.std.specs.Prelude.{◌≡◌, ℕ, false, List, Option, Some, None, is_some, Result, Ok, Err}
 use Rattle.proportions.specs.declared.fitting.Sides.{Sides}
 use Rattle.draw_ops.specs.Fault.{record_kind_of}
 use Rattle.draw_ops.specs.FaultTable.{fault_row}

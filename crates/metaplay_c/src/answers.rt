@@ -7,7 +7,7 @@ use buffer_calls::Outcome;
 use preflight_cert::Refusal;
 
 /// The call is done.
-const DONE: u32 = 0;
+pub(crate) const DONE: u32 = 0;
 
 /// The file, the certificate or the size was rejected.
 const REJECTED: u32 = 1;

@@ -6,7 +6,9 @@ ghost use Rattle.buffer_calls.specs.Plays.{EndsPlay};
 ghost use Rattle.buffer_calls.specs.Prepares.{EndsPrepare};
 ghost use Rattle.metaplay_c.specs.Answers.{Reports, ReportsName, ReportsSides};
 
-use crate::answers::{Answer, SurfaceSides, answer_of, name_answer, plain_answer, rejected_answer};
+use crate::answers::{
+    Answer, DONE, SurfaceSides, answer_of, name_answer, plain_answer, rejected_answer,
+};
 use buffer_calls::{check_bytes, copy_fault_name, fitted_for, play_into, prepare_into};
 use preflight_cert::Refusal;
 use proportions::Sides;
@@ -66,7 +68,7 @@ pub extern "C" fn metaplay_fitted_sides(
                 width: fitted.width,
                 height: fitted.height,
             };
-            plain_answer(0, 0)
+            plain_answer(DONE, 0)
         }
         Err(fault) => rejected_answer(Refusal::of_file(fault)),
     }

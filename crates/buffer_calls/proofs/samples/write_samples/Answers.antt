@@ -1,5 +1,5 @@
 -- What the writer left in the buffer: the samples of the whole text, or nothing.
-use Rattle.std.proofs.Common.{◌≡◌, ◌-◌, ◌∙◌, Err, List, ℕ, ap, arith, drop, rules, subst, sym, take}
+use Rattle.std.proofs.Common.{◌≡◌, ◌∙◌, Err, List, ℕ, ap, arith, rules, sym, take}
 use Rattle.std.proofs.lemmas.List.{length-take-le}
 use Rattle.draw_ops.specs.declared.fault.Fault.{Fault}
 use Rattle.draw_ops.specs.declared.fault.Fault.TheVariants as fault
