@@ -67,16 +67,18 @@ class Metaplay:
 
     def prepare(self, file, width, height):
         """The certificate of a file for surfaces of at most this size: a first call finds its length."""
-        length = self.library.metaplay_prepare(file, len(file), width, height, ctypes.create_string_buffer(1), 0).length
-        buffer = ctypes.create_string_buffer(max(length, 1))
-        return buffer.raw[: self.demand(self.library.metaplay_prepare(file, len(file), width, height, buffer, length))]
+        needed = self.library.metaplay_prepare(file, len(file), width, height, ctypes.create_string_buffer(1), 0).length
+        buffer = ctypes.create_string_buffer(max(needed, 1))
+        length = self.demand(self.library.metaplay_prepare(file, len(file), width, height, buffer, needed))
+        return buffer.raw[:length]
 
     def play(self, file, certificate, width, height):
         """The image of a file on a white surface of this size: three bytes for each pixel."""
-        length = 3 * width * height
-        buffer = ctypes.create_string_buffer(max(length, 1))
+        needed = 3 * width * height
+        buffer = ctypes.create_string_buffer(max(needed, 1))
         inputs = file, len(file), certificate, len(certificate)
-        return buffer.raw[: self.demand(self.library.metaplay_play(*inputs, width, height, buffer, length))]
+        length = self.demand(self.library.metaplay_play(*inputs, width, height, buffer, needed))
+        return buffer.raw[:length]
 
     def fitted_sides(self, file, width, height):
         """The largest width and height within these that are in the proportion of the file's frame."""
