@@ -4,21 +4,25 @@
 # The version of the interface: a program that was linked with one finds no other.
 interface=1
 
-# What the library is linked from: the proved archive, and the toolchain's functions that call malloc.
+# The archive that the toolchain makes once the library is proved.
 proved=$root/crates/metaplay_c/out/libmetaplay_c.a
 
-# Leaves libmetaplay.a, libmetaplay.so, libmetaplay.so.1 and metaplay.pc in a folder. The last one is for a library
-# that is installed below this prefix.
+# Proves the library, and links it. Leaves libmetaplay.a, libmetaplay.so, libmetaplay.so.1 and metaplay.pc in a folder.
+# The last one is for a library that is installed below this prefix.
 make_library() {
-    (cd "$root/crates/metaplay_c" && rt lib) >"$1/library.log" 2>&1 || return 1
-    heap=$(dirname "$(readlink -f "$(command -v rt)")")/../c/liblibc_c.a
-    make_archive "$1" && link_shared "$1" && write_pc "$2" >"$1/metaplay.pc"
+    (cd "$root/crates/metaplay_c" && rt lib) >"$1/library.log" 2>&1 && link_library "$1" "$2" "$proved"
 }
 
-# One archive of both.
+# The same from the archive of the proved library.
+link_library() {
+    make_archive "$1" "$3" && link_shared "$1" && write_pc "$2" >"$1/metaplay.pc"
+}
+
+# One archive of the proved library, and of the toolchain's functions that call malloc.
 make_archive() {
+    heap=$(dirname "$(readlink -f "$(command -v rt)")")/../c/liblibc_c.a
     mkdir -p "$1/objects" && rm -f -- "$1"/objects/* "$1/libmetaplay.a" || return 1
-    (cd "$1/objects" && ar x "$proved" && ar x "$heap" && ar rcs ../libmetaplay.a ./*) && rm -r -- "$1/objects"
+    (cd "$1/objects" && ar x "$2" && ar x "$heap" && ar rcs ../libmetaplay.a ./*) && rm -r -- "$1/objects"
 }
 
 # The shared library, which defines no names but those of the header.

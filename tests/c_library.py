@@ -10,6 +10,8 @@ import subprocess
 import tempfile
 
 from built import ROOT
+from edit_trials import rt
+from edits import build_libraries
 
 EXAMPLES = ROOT / "examples"
 
@@ -27,16 +29,29 @@ def example():
 SHOW = example()
 
 
+def archive(made):
+    """The archive of the library, which is proved over the libraries that `rt ci` leaves."""
+    crate = next(it for it in rt.rtlib.crates_below(str(ROOT)) if it.name == "metaplay_c")
+    if not build_libraries(crate):
+        raise AssertionError("the libraries below can't be built")
+    path = made / "libmetaplay_c.a"
+    words = crate.words(["--jobs", "1"], keeps=False)
+    words = [rt.rtlib.RATTLE, "build", *words, "--toolchain", f"{rt.rtlib.KIT}/toolchain", "--backend", "llvm", "-o", path]
+    ran = subprocess.run([*rt.rtlib.guarded(), *words], cwd=crate.folder, stdout=subprocess.PIPE, stderr=subprocess.STDOUT, text=True, check=False)
+    if ran.returncode or "\nlogic=proved " not in ran.stdout:
+        raise AssertionError(ran.stdout)
+    return path
+
+
 @functools.cache
 def folder():
-    """A folder with the library, which is proved and linked as `metaplay install` does it."""
+    """A folder with the library, linked as `metaplay install` links it."""
     made = pathlib.Path(tempfile.mkdtemp(prefix="c-library-"))
     atexit.register(shutil.rmtree, made)
-    words = 'root=$1 && . "$1/launcher/library.sh" && make_library "$2" "$2/usr"'
-    ran = subprocess.run(["sh", "-uc", words, "sh", ROOT, made], stdout=subprocess.PIPE, stderr=subprocess.STDOUT, text=True, check=False)
-    log = made / "library.log"
-    if ran.returncode:
-        raise AssertionError(f"{ran.stdout}\n{log.read_text() if log.exists() else ''}")
+    words = 'root=$1 && . "$1/launcher/library.sh" && link_library "$2" "$2/usr" "$3"'
+    ran = subprocess.run(["sh", "-uc", words, "sh", ROOT, made, archive(made)], capture_output=True, text=True, check=False)
+    if ran.returncode or ran.stdout or ran.stderr:
+        raise AssertionError(ran.stdout + ran.stderr)
     return made
 
 
