@@ -5,9 +5,9 @@
  *
  * Without a certificate, one is prepared for this size. The exit status is 0 if the image was written, 1 if the file,
  * the certificate or the size is rejected, 2 for wrong usage, 3 if an input or the output fails, and 4 if memory runs
- * out. Build it with the library, from this repository's folder:
+ * out. If the library is installed, this builds it:
  *
- *     cc -Iinclude examples/show.c -L/usr/local/lib -lmetaplay -o show
+ *     cc show.c $(pkg-config --cflags --libs metaplay) -o show
  */
 #include <metaplay.h>
 #include <stdio.h>

@@ -1,8 +1,8 @@
 /*
  * metaplay: checks Windows metafiles (WMF, EMF), and plays those that pass.
  *
- * The functions are proved: they read and write only the memory that they are given, they return, and they answer as is
- * said here, for all bytes and numbers. Nothing checks what a caller does. These lines say what is assumed of it:
+ * The functions are proved: they use only memory that they are given or allocate, free what they allocate, return, and
+ * answer as is said here, for all bytes and numbers. Nothing checks what a caller does. This is assumed of it:
  *
  * - A pointer isn't null, not even where the length after it is 0.
  * - A pointer with a length leads to as many bytes as the length says. The caller may read them, and may also write
@@ -14,7 +14,7 @@
  * - `malloc` and `realloc` align a block to each power of two up to 16 that divides its size.
  * - A function isn't called from a signal handler.
  * - A function isn't called from the forked child of a process that had several threads.
- * - The thread's stack has 256 KiB left.
+ * - The thread's stack has 64 KiB left.
  * - The names of the functions mean these functions in the whole program.
  *
  * Calls may run at the same time in several threads. Nothing is kept from one call to the next.

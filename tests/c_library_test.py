@@ -11,7 +11,7 @@ import tempfile
 import unittest
 
 from built import DOT, PROGRAMS, ROOT, SAMPLES, Answer, answer
-from c_library import EXAMPLES, SHOW, STRICT, Buffer, check, fault_name, fitted, folder, library, linked_show, loading_show, numbers, plain, play, prepare, rejected
+from c_library import EXAMPLES, SHOW, STRICT, Buffer, check, compiled, fault_name, fitted, folder, library, linked_show, loading_show, numbers, plain, play, prepare, rejected
 from command_inputs import FAR, NOTED, NOTED_CERT, NOTHING, NOTHING_CERT, TRIANGLE, TRIANGLE_CERT, changed
 from commands_test import DOT_CERT
 from metafile.fields import i16, u32
@@ -255,7 +255,16 @@ class Calls(unittest.TestCase):
 
 
 class Memory(unittest.TestCase):
-    """Allocations that fail."""
+    """Stacks that are small, and allocations that fail."""
+
+    def test_a_call_needs_little_stack(self):
+        program = compiled(ROOT / "tests/used_stack.c", "used_stack", ["-D_POSIX_C_SOURCE=200809L", folder() / "libmetaplay.a", "-lpthread"])
+        stated = re.search(r"stack has (\d+) KiB left", (ROOT / "include/metaplay.h").read_text(encoding="utf-8"))
+        for name in NAMES:
+            done = subprocess.run([program, SAMPLES / name, "200"], capture_output=True, text=True, check=True)
+            *outcomes, used = map(int, done.stdout.split())
+            self.assertEqual(outcomes, [SHOW.REJECTED] * 3 + [SHOW.DONE] if name == HELD_OBJECT else [SHOW.DONE] * 4, name)
+            self.assertLess(used, 1024 * int(stated[1]), name)
 
     def test_each_failed_allocation_ends_without_an_image(self):
         preload = folder() / "fail_growth.so"

@@ -3,6 +3,10 @@ use Rattle.std.specs.Prelude.{◌≡◌, ◌≤◌, ℕ, ◌+◌, ◌-◌, List,
 use Rattle.std.specs.Borrow.{MutBor}
 use Rattle.buffer_calls.specs.declared.split.Split.{Split}
 
+-- the bytes of a header that isn't written in full yet
+abbrev pub header_of : Split → List ℕ
+header_of split = take split.written split.header
+
 -- the bytes that were written: those of the header, and then those of the buffer
 abbrev pub text_of : Split → List ℕ → List ℕ
 text_of split samples = take split.written (take split.header_length split.header ++ samples)

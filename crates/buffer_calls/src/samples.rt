@@ -93,6 +93,7 @@ fn write_samples<T: Target>(
             if fault == Fault::WriteFault {
                 return Ok(());
             }
+            // The surface is within the bound, so an allocation failed.
             Err(OutOfMemory)
         }
     }

@@ -24,7 +24,7 @@ pub(crate) struct Split {
 }
 
 impl Split {
-    ghost use Rattle.buffer_calls.specs.Split.{GoesOn, IsFull, text_of};
+    ghost use Rattle.buffer_calls.specs.Split.{GoesOn, IsFull, header_of, text_of};
 
     /// Takes as many of the bytes as header and buffer have capacity for, and returns how many.
     pub(crate) fn accept(&mut self, samples: &mut [u8], bytes: &[u8]) -> usize
@@ -49,7 +49,7 @@ impl Split {
         ensures within { self.new.written ≤ self.new.header_length }
         ensures length { self.new.header_length ≡ self.old.header_length }
         ensures written { self.new.written ≡ self.old.written + result }
-        ensures text { take self.new.written self.new.header ≡ take self.old.written self.old.header ++ take result bytes.now }
+        ensures text { header_of self.new ≡ header_of self.old ++ take result bytes.now }
     {
         let count = bytes.len().min(self.header_length - self.written);
         put(&mut self.header, self.written, &bytes[..count]);
