@@ -5,13 +5,15 @@ import concurrent.futures
 import json
 import pathlib
 import re
+import resource
+import string
 import subprocess
 import sys
 import tempfile
 import unittest
 
 from built import DOT, PROGRAMS, ROOT, SAMPLES, Answer, answer
-from c_library import EXAMPLES, SHOW, STRICT, Buffer, check, compiled, fault_name, fitted, folder, library, linked_show, loading_show, numbers, plain, play, prepare, rejected
+from c_library import EXAMPLES, SHOW, STRICT, check, compiled, fault_name, fitted, folder, library, linked_show, loading_show, plain, play, prepare, rejected
 from command_inputs import FAR, NOTED, NOTED_CERT, NOTHING, NOTHING_CERT, TRIANGLE, TRIANGLE_CERT, changed
 from commands_test import DOT_CERT
 from metafile.fields import i16, u32
@@ -19,17 +21,17 @@ from metafile.files import WMF_END, placeable_file, wmf_record
 
 PROGRAM = PROGRAMS[0]
 
-# The samples that play, and one that doesn't.
-HELD_OBJECT = "held.wmf"
-
+# The samples, and the one that doesn't play.
 NAMES = sorted(it.name for it in SAMPLES.iterdir() if it.suffix in (".wmf", ".emf"))
+
+HELD_OBJECT = "held.wmf"
 
 SIDES = (96, 80)
 
 # The codes of faults by their names.
 CODES = {name: int(code) for code, name in re.findall(r"(?m)^\| (\d+) \| `(\w+)` \|", (ROOT / "docs/FAULTS.md").read_text(encoding="utf-8"))}
 
-# A code that no fault has.
+# Codes that no fault has.
 NO_CODES = [0, 48, 49, 255, 256, 1 << 8 | 1, (1 << 32) - 1]
 
 # Sides that no surface has.
@@ -132,11 +134,14 @@ class Headers(unittest.TestCase):
         self.assertEqual(sorted(it.split()[-1].split("@")[0] for it in listed.splitlines()), sorted(declared))
         self.assertEqual(sorted(SHOW.FUNCTIONS), sorted(declared))
 
-    def test_pkg_config_finds_the_library(self):
-        environment = {"PKG_CONFIG_PATH": str(folder()), "PATH": "/usr/bin:/bin"}
-        words = ["pkg-config", "--cflags", "--libs", "metaplay"]
-        told = subprocess.run(words, capture_output=True, text=True, check=True, env=environment).stdout.split()
-        self.assertEqual(told, [f"-I{folder()}/usr/include", f"-L{folder()}/usr/lib", "-lmetaplay"])
+    def test_the_file_for_pkg_config_names_what_is_installed(self):
+        lines = (folder() / "metaplay.pc").read_text(encoding="utf-8").splitlines()
+        variables = string.Template("\n".join(line for line in lines if not line.startswith("prefix="))).substitute
+        self.assertEqual(lines[0], f"prefix={folder()}/usr")
+        self.assertIn("Cflags: -I/p/include", variables(prefix="/p", includedir="/p/include", libdir="/p/lib").splitlines())
+        self.assertIn("Libs: -L/p/lib -lmetaplay", variables(prefix="/p", includedir="/p/include", libdir="/p/lib").splitlines())
+        self.assertIn("libdir=/p/lib", variables(prefix="/p", includedir="", libdir="").splitlines())
+        self.assertIn("includedir=/p/include", variables(prefix="/p", includedir="", libdir="").splitlines())
 
 
 class Calls(unittest.TestCase):
@@ -265,6 +270,14 @@ class Memory(unittest.TestCase):
             *outcomes, used = map(int, done.stdout.split())
             self.assertEqual(outcomes, [SHOW.REJECTED] * 3 + [SHOW.DONE] if name == HELD_OBJECT else [SHOW.DONE] * 4, name)
             self.assertLess(used, 1024 * int(stated[1]), name)
+
+    def test_a_play_holds_no_second_image(self):
+        side = 4096
+        within = 3 * side * side + (12 << 20)
+        words = [str(it) for it in (linked_show(), SAMPLES / "wheel.wmf", side, side)]
+        done = subprocess.run(words, capture_output=True, check=False, preexec_fn=lambda: resource.setrlimit(resource.RLIMIT_AS, (within, within)))
+        self.assertEqual((done.returncode, done.stderr), (0, b""))
+        self.assertTrue(done.stdout == shown("wheel.wmf", side, side).out)
 
     def test_each_failed_allocation_ends_without_an_image(self):
         preload = folder() / "fail_growth.so"
