@@ -30,7 +30,7 @@ COMMENT = re.compile(r"//[^\n]*")
 
 CLAUSE = re.compile(r"(?m)^ *(?:requires|ensures)\*?(?: \w+)? \{")
 
-FUNCTION = re.compile(r"(?m)^(?P<indent> *)(?:pub(?:\([^)]*\))? )?(?:const |unsafe )*fn (?P<name>\w+)")
+FUNCTION = re.compile(r"(?m)^(?P<indent> *)(?:pub(?:\([^)]*\))? )?(?:const |unsafe |extern \S+ )*fn (?P<name>\w+)")
 
 # What the lines in front of a function's body end with: its brace, an empty body, or the end of what has none.
 HEAD = re.compile(r"(?m)(\{\}|;|\{) *$")

@@ -6,7 +6,7 @@ The sources are in the formatter's layout: an item ends at the first line that c
 import re
 from typing import NamedTuple
 
-FUNCTION = re.compile(r"(?m)^(?P<indent> *)(?:pub(?:\([^)]*\))? )?(?:const |unsafe )*fn (?P<name>\w+)")
+FUNCTION = re.compile(r"(?m)^(?P<indent> *)(?:pub(?:\([^)]*\))? )?(?:const |unsafe |extern \S+ )*fn (?P<name>\w+)")
 
 TYPE = re.compile(r"(?m)^(?:pub(?:\([^)]*\))? )?(?:struct|enum) (\w+)")
 

@@ -13,9 +13,9 @@ from refusal_places import CONTRACT, body_start, without_comments
 # What a source file declares beside functions.
 ITEM = re.compile(r"(?m)^ *(?:pub(?:\([^)]*\))? )?(?:struct|enum|trait|type|const) (\w+)")
 
-FUNCTION = re.compile(r"(?m)^ *(?:pub(?:\([^)]*\))? )?(?:const )?fn (\w+)")
+FUNCTION = re.compile(r"(?m)^ *(?:pub(?:\([^)]*\))? )?(?:const |extern \S+ )?fn (\w+)")
 
-PUBLIC = re.compile(r"(?m)^( *)(pub )?(?:const )?fn \w+")
+PUBLIC = re.compile(r"(?m)^( *)(pub )?(?:const |extern \S+ )?fn \w+")
 
 FIELDS = re.compile(r"(?m)^(?:pub(?:\([^)]*\))? )?(?:struct|enum) (\w+)[^;{\n]*\{$")
 
@@ -113,7 +113,8 @@ def crates():
 def libraries():
     """The crates that crates.txt lists, in its order, with the libraries that each stands on."""
     lines = (ROOT / "crates.txt").read_text(encoding="utf-8").splitlines()
-    return {line.partition(":")[0]: line.partition(":")[2].split() for line in lines if re.match(r"\w+:", line)}
+    listed = [re.match(r"(\w+)(?: staticlib)?:(.*)", line) for line in lines]
+    return {it[1]: it[2].split() for it in listed if it}
 
 
 def without_blocks(text):

@@ -98,7 +98,7 @@ def out_of_layout(text):
     for end in clause_ends(plain):
         line = plain[plain.rfind("\n", 0, end) + 1 : plain.find("\n", end)]
         found += [line] if plain[end : plain.find("\n", end)].strip() not in ("", ";") else []
-    found += [line for line in plain.splitlines() if re.match(r" *(?:pub(?:\([^)]*\))? )?(?:const )?fn .*\{.*\S", line) and not line.endswith("{}")]
+    found += [line for line in plain.splitlines() if re.match(r" *(?:pub(?:\([^)]*\))? )?(?:const |extern \S+ )?fn .*\{.*\S", line) and not line.endswith("{}")]
     return found
 
 

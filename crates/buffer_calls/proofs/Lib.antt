@@ -1,0 +1,4 @@
+pub mod EndLemmas
+pub mod FaultLemmas
+pub mod SampleLemmas
+pub mod SplitLemmas

@@ -1,0 +1,83 @@
+//! The functions that C calls.
+
+ghost use Rattle.buffer_calls.specs.Checks.{EndsCheck};
+ghost use Rattle.buffer_calls.specs.Fitted.{fitted_result};
+ghost use Rattle.buffer_calls.specs.Plays.{EndsPlay};
+ghost use Rattle.buffer_calls.specs.Prepares.{EndsPrepare};
+ghost use Rattle.metaplay_c.specs.Answers.{Reports, ReportsName, ReportsSides};
+
+use crate::answers::{
+    Answer, DONE, SurfaceSides, answer_of, name_answer, plain_answer, rejected_answer,
+};
+use buffer_calls::{check_bytes, copy_fault_name, fitted_for, play_into, prepare_into};
+use preflight_cert::Refusal;
+use proportions::Sides;
+use std::alloc::Global;
+
+/// Checks a certificate against a file.
+#[unsafe(no_mangle)]
+pub extern "C" fn metaplay_check(alloc: Global, file: &[u8], certificate: &[u8]) -> Answer
+    ensures { Reports (EndsCheck file.now certificate.now) result }
+{
+    answer_of(check_bytes(alloc, file, certificate))
+}
+
+/// Prepares the certificate of a file for surfaces of at most this size, in a buffer.
+#[unsafe(no_mangle)]
+pub extern "C" fn metaplay_prepare(
+    alloc: Global,
+    file: &[u8],
+    width: u32,
+    height: u32,
+    out: &mut [u8],
+) -> Answer
+    ensures { Reports (EndsPrepare file.now width height out.old out.new) result }
+{
+    answer_of(prepare_into(alloc, file, Sides { width, height }, out))
+}
+
+/// Checks a certificate against a file, and plays the file into a buffer of samples.
+#[unsafe(no_mangle)]
+pub extern "C" fn metaplay_play(
+    alloc: Global,
+    file: &[u8],
+    certificate: &[u8],
+    width: u32,
+    height: u32,
+    out: &mut [u8],
+) -> Answer
+    ensures { Reports (EndsPlay file.now certificate.now width height out.old out.new) result }
+{
+    let surface = Sides { width, height };
+    answer_of(play_into(alloc, file, certificate, surface, out))
+}
+
+/// The largest sides within a width and a height that are in the proportion of a file's frame.
+#[unsafe(no_mangle)]
+pub extern "C" fn metaplay_fitted_sides(
+    file: &[u8],
+    width: u32,
+    height: u32,
+    sides: &mut SurfaceSides,
+) -> Answer
+    ensures { ReportsSides (fitted_result file.now width height) sides.old sides.new result }
+{
+    match fitted_for(file, Sides { width, height }) {
+        Ok(fitted) => {
+            *sides = SurfaceSides {
+                width: fitted.width,
+                height: fitted.height,
+            };
+            plain_answer(DONE, 0)
+        }
+        Err(fault) => rejected_answer(Refusal::of_file(fault)),
+    }
+}
+
+/// Copies the name of the fault with this code to a buffer.
+#[unsafe(no_mangle)]
+pub extern "C" fn metaplay_fault_name(code: u32, out: &mut [u8]) -> Answer
+    ensures { ReportsName code out.old out.new result }
+{
+    name_answer(copy_fault_name(code, out))
+}

@@ -1,0 +1,19 @@
+//! The library for C. Its header, `include/metaplay.h`, declares these functions and says what they assume of a caller.
+//!
+//! # What is promised
+//!
+//! - Each function calls one of `buffer_calls`, and its contract is that of the call: the answer has the numbers of an
+//!   outcome that the call may have (`metaplay_check`, `metaplay_prepare`, `metaplay_play`, by `Reports`;
+//!   `metaplay_fault_name`, by `ReportsName`).
+//! - The sides that fit a file's frame are written only if there are such sides (`metaplay_fitted_sides`, by
+//!   `ReportsSides`).
+//! - No function has a `requires`: each answers for any bytes, lengths, numbers and buffers.
+#![tactic(auto)]
+
+mod answers;
+mod calls;
+
+pub use answers::{Answer, SurfaceSides};
+pub use calls::{
+    metaplay_check, metaplay_fault_name, metaplay_fitted_sides, metaplay_play, metaplay_prepare,
+};

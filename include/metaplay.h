@@ -1,0 +1,121 @@
+/*
+ * metaplay: checks Windows metafiles (WMF, EMF), and plays those that pass.
+ *
+ * The functions are proved: they use only memory that they are given or allocate, free what they allocate, return, and
+ * answer as is said here, for all bytes and numbers. Nothing checks what a caller does. This is assumed of it:
+ *
+ * - A pointer isn't null, not even where the length after it is 0.
+ * - A pointer with a length leads to as many bytes as the length says. The caller may read them, and may also write
+ *   those that aren't const.
+ * - A length is below 2^63.
+ * - A buffer that a call writes, or the struct behind a pointer, overlaps nothing else that the call is given.
+ * - No other thread writes what a running call reads, and no other thread reads or writes what it writes.
+ * - `malloc`, `realloc` and `free` are those of one allocator.
+ * - `malloc` and `realloc` align a block to each power of two up to 16 that divides its size.
+ * - A function isn't called from a signal handler.
+ * - A function isn't called from the forked child of a process that had several threads.
+ * - The thread's stack has 64 KiB left.
+ * - The names of the functions mean these functions in the whole program.
+ *
+ * Calls may run at the same time in several threads. Nothing is kept from one call to the next.
+ */
+#ifndef METAPLAY_H
+#define METAPLAY_H
+
+#include <stdbool.h>
+#include <stddef.h>
+#include <stdint.h>
+
+#ifdef __cplusplus
+extern "C" {
+#endif
+
+/* How a call ended. Only a call that is done changes a buffer or a struct. */
+enum {
+    /* It is done. */
+    METAPLAY_DONE = 0,
+    /* The file, the certificate or the size was rejected: `fault` says why. */
+    METAPLAY_REJECTED = 1,
+    /* The buffer is too short: `length` says how many bytes it must have. */
+    METAPLAY_TOO_SHORT = 2,
+    /* The allocator returned null. */
+    METAPLAY_OUT_OF_MEMORY = 3,
+    /* No fault has the code. */
+    METAPLAY_NO_SUCH_FAULT = 4
+};
+
+/* The greatest width and height of a surface, in pixels. The least is 1. */
+#define METAPLAY_MOST_SIDE 8192
+
+/* The length of the longest name of a fault. */
+#define METAPLAY_MOST_NAME 16
+
+/* The answer of a call. A number that has no meaning for its outcome is 0. */
+typedef struct metaplay_answer {
+    /* One of the outcomes above. */
+    uint32_t outcome;
+    /* If the call was rejected, the fault's code, from 1 to 47 (docs/FAULTS.md). */
+    uint32_t fault;
+    /* If `has_record_number`, the number of the record that the fault lies in. The first record has number 0. */
+    uint32_t record_number;
+    /* If `has_record_kind`, the type (EMF) or the function (WMF) of the record that faults 14 and 15 refer to. */
+    uint32_t record_kind;
+    bool has_record_number;
+    bool has_record_kind;
+    /* How many bytes were written at the start of the buffer, or how many it must have. */
+    size_t length;
+} metaplay_answer;
+
+/* The width and the height of a surface, in pixels. */
+typedef struct metaplay_sides {
+    uint32_t width;
+    uint32_t height;
+} metaplay_sides;
+
+/*
+ * Checks a certificate against a file. If it is accepted (METAPLAY_DONE), the file plays without a fault at every size
+ * up to the certificate's bound, and writes at most the certified number of pixels.
+ */
+metaplay_answer metaplay_check(const uint8_t *file, size_t file_length, const uint8_t *certificate,
+                               size_t certificate_length);
+
+/*
+ * Prepares the certificate of a file for surfaces of at most this size, and copies it to the start of `out`. It is
+ * accepted by `metaplay_check`. The width and the height must be from 1 to 8,192 (fault 8, BadBound). To learn the
+ * length, call it with `out_length` 0.
+ */
+metaplay_answer metaplay_prepare(const uint8_t *file, size_t file_length, uint32_t width, uint32_t height,
+                                 uint8_t *out, size_t out_length);
+
+/*
+ * Checks a certificate against a file, plays the file on a white surface of this size, and writes the image to the
+ * start of `out`: red, green and blue of each pixel, from the left, row by row from the top, without padding. That takes
+ * 3 * width * height bytes. The file is played in bands, so beside `out` there is no second image in memory.
+ *
+ * The first of these decides: the width or the height isn't from 1 to 8,192 (fault 8, BadBound); `metaplay_check`
+ * rejects the pair; the surface exceeds the certificate's bound (fault 42, SurfaceTooLarge); `out` is too short; an
+ * allocation fails.
+ */
+metaplay_answer metaplay_play(const uint8_t *file, size_t file_length, const uint8_t *certificate,
+                              size_t certificate_length, uint32_t width, uint32_t height, uint8_t *out,
+                              size_t out_length);
+
+/*
+ * Finds the largest sides within a width and a height that are in the proportion of the file's frame: one of them is
+ * the width or the height that is given, and the other is rounded to the nearest, but at least 1. The width and the
+ * height must be from 1 to 8,192 (fault 8, BadBound). Only the file's headers are read.
+ */
+metaplay_answer metaplay_fitted_sides(const uint8_t *file, size_t file_length, uint32_t width, uint32_t height,
+                                      metaplay_sides *sides);
+
+/*
+ * Copies the name of the fault with this code, as in docs/FAULTS.md, to the start of `out`. No zero byte follows it;
+ * `length` is the name's. METAPLAY_MOST_NAME bytes are enough for each name.
+ */
+metaplay_answer metaplay_fault_name(uint32_t code, uint8_t *out, size_t out_length);
+
+#ifdef __cplusplus
+}
+#endif
+
+#endif
