@@ -27,6 +27,7 @@ OTHERS = {
     "c++": "a program",
     "cc": "a program",
     "install": "a word of the launcher",
+    "libmetaplay.a": "a file that is made of the proved library",
     "malloc": "a call of the C library's",
     "proofs/": "a folder of each crate",
     "packaging/make_deb FILE": "a command of a packager",
