@@ -3,16 +3,17 @@ _metaplay() {
     local word=${COMP_WORDS[COMP_CWORD]} options=""
     COMPREPLY=()
     if [ "$COMP_CWORD" -eq 1 ]; then
-        mapfile -t COMPREPLY < <(compgen -W "show prepare check play over list help --help" -- "$word")
+        mapfile -t COMPREPLY < <(compgen -W "show prepare check play over list info help --help" -- "$word")
         return
     fi
     case ${COMP_WORDS[1]} in
-        show) options="--help" ;;
+        show) options="--fit --help" ;;
         prepare) options="--help" ;;
         check) options="--help" ;;
-        play) options="--bands --help" ;;
+        play) options="--bands --fit --help" ;;
         over) options="--help" ;;
         list) options="--help" ;;
+        info) options="--help" ;;
     esac
     case $word in
         -*) mapfile -t COMPREPLY < <(compgen -W "$options" -- "$word") ;;
