@@ -91,7 +91,7 @@ metaplay_answer metaplay_prepare(const uint8_t *file, size_t file_length, uint32
 
 /*
  * Checks a certificate against a file, plays the file on a white surface of this size, and writes the image to the
- * start of `out`: red, green and blue of each pixel, from the left, row by row from the top, without padding. That takes
+ * start of `out`: red, green and blue of each pixel, from the left, row by row from the top, without padding. It takes
  * 3 * width * height bytes. The file is played in bands, so beside `out` there is no second image in memory.
  *
  * The first of these decides: the width or the height isn't from 1 to 8,192 (fault 8, BadBound); `metaplay_check`
