@@ -8,6 +8,7 @@
  * - A pointer with a length leads to as many bytes as the length says. The caller may read them, and may also write
  *   those that aren't const.
  * - A length is below 2^63.
+ * - A pointer to a struct is aligned for it.
  * - A buffer that a call writes, or the struct behind a pointer, overlaps nothing else that the call is given.
  * - No other thread writes what a running call reads, and no other thread reads or writes what it writes.
  * - `malloc`, `realloc` and `free` are those of one allocator.
@@ -16,6 +17,7 @@
  * - A function isn't called from the forked child of a process that had several threads.
  * - The thread's stack has 64 KiB left.
  * - The names of the functions mean these functions in the whole program.
+ * - The system is Linux on x86-64, and the processor has SSE 4.2 (x86-64-v2).
  *
  * Calls may run at the same time in several threads. Nothing is kept from one call to the next.
  */
@@ -89,7 +91,7 @@ metaplay_answer metaplay_prepare(const uint8_t *file, size_t file_length, uint32
 
 /*
  * Checks a certificate against a file, plays the file on a white surface of this size, and writes the image to the
- * start of `out`: red, green and blue of each pixel, from the left, row by row from the top, without padding. That takes
+ * start of `out`: red, green and blue of each pixel, from the left, row by row from the top, without padding. It takes
  * 3 * width * height bytes. The file is played in bands, so beside `out` there is no second image in memory.
  *
  * The first of these decides: the width or the height isn't from 1 to 8,192 (fault 8, BadBound); `metaplay_check`

@@ -271,6 +271,11 @@ class Memory(unittest.TestCase):
             self.assertEqual(outcomes, [SHOW.REJECTED] * 3 + [SHOW.DONE] if name == HELD_OBJECT else [SHOW.DONE] * 4, name)
             self.assertLess(used, 1024 * int(stated[1]), name)
 
+    def test_each_block_is_freed_and_none_is_misused(self):
+        words = ["valgrind", "-q", "--leak-check=full", "--errors-for-leak-kinds=all", "--error-exitcode=9", linked_show()]
+        for name in ("paths.emf", "bitmaps.wmf", "lines.wmf"):
+            self.assertEqual(ran([*words, SAMPLES / name, "24", "20"]), shown(name, 24, 20))
+
     def test_a_play_holds_no_second_image(self):
         side = 4096
         within = 3 * side * side + (12 << 20)

@@ -1,7 +1,6 @@
 //! Playing a file into a buffer.
 
-ghost use Rattle.std.specs.Prelude.{◌≡◌, ◌*◌, ◌^◌, ◌<◌, IsTrue, true};
-ghost use Rattle.mapping.specs.Limits.{IsSurfaceSide};
+ghost use Rattle.std.specs.Prelude.{◌≡◌, ◌*◌, IsTrue, true};
 ghost use Rattle.player.specs.Bounds.{IsAboveBound, IsWithinBound};
 ghost use Rattle.preflight_cert.specs.Preparation.{is_bound};
 ghost use Rattle.buffer_calls.specs.Plays.{EndsCleared, EndsPlay};

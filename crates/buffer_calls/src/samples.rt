@@ -64,9 +64,10 @@ fn write_samples<T: Target>(
     ensures kept { OnErr result (samples.new ≡ samples.old) }
 {
     rows_law();
+    let (width, height) = (surface.width, surface.height);
     let split = Split {
         header: [0; HEADER_CAPACITY],
-        header_length: header_length(surface.width, surface.height),
+        header_length: header_length(width, height),
         written: 0,
     };
     let mut writer = SampleWriter::<T> {
@@ -76,17 +77,8 @@ fn write_samples<T: Target>(
         flushed: false,
         target: PhantomData,
     };
-    let (width, height) = (surface.width, surface.height);
-    let rows = band_rows(width);
-    match play_bands_to(
-        alloc,
-        cleared,
-        width,
-        height,
-        Colour::WHITE,
-        rows,
-        &mut writer,
-    ) {
+    let (rows, out) = (band_rows(width), &mut writer);
+    match play_bands_to(alloc, cleared, width, height, Colour::WHITE, rows, out) {
         Ok(_) => Ok(()),
         Err(fault) => {
             // The writer fails only if it is full, and then it has all samples.
