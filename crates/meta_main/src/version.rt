@@ -2,4 +2,4 @@
 
 /// The line that `--version` writes: the version, and the checksum of all sources but this one.
 pub(crate) const VERSION: &str =
-    "metaplay 1.0.0 (sources e5f16ec3252a75f31902be5795c430cfa3aad97cfd2fff756b8c1757cdbb1cf2)\n";
+    "metaplay 1.0.0 (sources 1e68e0cfb9bf50f2ea691ec84d69dbb886dbafd3be980ee91740dbf16f3df603)\n";
