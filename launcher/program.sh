@@ -89,7 +89,7 @@ toolchain() {
 sums_now() {
     echo "sources $(sources_sum)"
     echo "program $(sha256sum <"$program" | cut -d ' ' -f 1)"
-    echo "version $(sed -n 's/^ *"\(.*\)\\\\n";$/\1/p' "$root/$version" 2>/dev/null)"
+    echo "version $(sed -n 's/^ *"\(.*\)\\n";$/\1/p' "$root/$version" 2>/dev/null)"
     echo "toolchain $(toolchain)"
 }
 
