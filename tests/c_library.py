@@ -29,10 +29,15 @@ def example():
 SHOW = example()
 
 
+def are_left(crate):
+    """Whether the libraries below a crate are there as `rt ci` leaves them, however old they are: those that it kept are older than the sources."""
+    return all(pathlib.Path(it.rlib, "format").exists() and not pathlib.Path(it.rlib, "stamp").exists() for it in crate.below())
+
+
 def archive(made):
     """The archive of the library, which is proved over the libraries that `rt ci` leaves."""
     crate = next(it for it in rt.rtlib.crates_below(str(ROOT)) if it.name == "metaplay_c")
-    if not build_libraries(crate):
+    if not are_left(crate) and not build_libraries(crate):
         raise AssertionError("the libraries below can't be built")
     path = made / "libmetaplay_c.a"
     words = crate.words(["--jobs", "1"], keeps=False)
