@@ -113,7 +113,7 @@ def refused_by(ran, last, edits):
     changed = files_of(edits)
     if ran.status != 1 or not lines[-1].startswith(last) or any(rt.unread(line, changed) for line in lines):
         return None
-    return edit_verdicts.refused(ran.said) - ran.unproved
+    return {name for name in edit_verdicts.refused(ran.said) if edit_verdicts.function_of(name) not in ran.unproved}
 
 
 class Trying:

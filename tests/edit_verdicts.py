@@ -22,6 +22,11 @@ def is_refused(said):
     return any(not reason.endswith(OF_OTHERS) and WAITS not in reason for reason in reasons)
 
 
+def function_of(name):
+    """The function in which a closure is, by the name that the prover gives the closure; any other name as it is."""
+    return re.sub(r"::fn::(\w+)::.*", r"::\1", name)
+
+
 def refused(text):
     """The functions that a check refuses for a reason of their own."""
     return {name for name, said in LINE.findall(text) if is_refused(said)}

@@ -5,7 +5,7 @@ import unittest
 
 from edit_functions import changed_functions, functions, named_functions, pairs, unproved
 from edit_rounds import Edit, beside, parts_of, placed_in, rounds_of
-from edit_verdicts import is_refused, refused
+from edit_verdicts import function_of, is_refused, refused
 
 ROOT = pathlib.Path(__file__).resolve().parent.parent
 
@@ -181,6 +181,12 @@ class Verdicts(unittest.TestCase):
         call, goal = "it calls `shapes::twice`, which is not proved", "`search` did not prove `returns-in-Text`"
         self.assertTrue(is_refused(f"no proof: {call}; {goal}"))
         self.assertTrue(is_refused(f"no proof: {goal}; {call}"))
+
+    def test_a_closure_is_in_a_function(self):
+        """The prover names a closure by its function and by the call that it is given to."""
+        self.assertEqual(function_of("shapes::sides::fn::retire::retain"), "shapes::sides::retire")
+        self.assertEqual(function_of("shapes::fn::words::map_err+FnOnce::call_once"), "shapes::words")
+        self.assertEqual(function_of("shapes::sides::Side::new"), "shapes::sides::Side::new")
 
     def test_functions_are_told_from_other_lines(self):
         """Only lines of functions count, each by its name."""
