@@ -50,7 +50,7 @@ def archive(made):
 
 @functools.cache
 def folder():
-    """A folder with the library, linked as `metaplay install` links it."""
+    """A folder with the library, linked as `packaging/make_library` links it."""
     made = pathlib.Path(tempfile.mkdtemp(prefix="c-library-"))
     atexit.register(shutil.rmtree, made)
     words = 'root=$1 && . "$1/launcher/library.sh" && link_library "$2" "$2/usr" "$3"'
