@@ -1,11 +1,9 @@
-# Proves and builds the program: crate by crate, as crates.txt lists them, and side by side where there are processors
-# and memory.
+# Proves and builds the program or the library for C: crate by crate, as crates.txt lists them, and side by side where
+# there are processors and memory.
 # shellcheck shell=sh disable=SC2154
 
 # How many seconds go by without a line of progress, at most.
 most_silent=30
-
-logs=$made/build.$$
 
 # Seconds as minutes, rounded to the nearest.
 minutes() {
@@ -40,7 +38,7 @@ build_crate() {
     begun=$(date +%s)
     cd "$root/crates/$name" || exit 1
     trap 'kill "$building"; exit 1' TERM
-    if [ "$name" = "$main" ]; then
+    if [ "$name" = meta_main ]; then
         rt run -- show stdin 1 1 <"$root/samples/dot.wmf" >"$logs/$name.log" 2>&1 &
     else
         rt lib >"$logs/$name.log" 2>&1 &
@@ -146,7 +144,11 @@ build() {
     last=$start
     write_version || return 1
     sum=$(sources_sum)
-    say "proving and building $total crates, $most at a time; '$0 try' doesn't wait for it, and proves nothing ..."
+    case $main in
+        meta_main) hint="; '$0 try' doesn't wait for it, and proves nothing" ;;
+        *) hint= ;;
+    esac
+    say "proving and building $total crates, $most at a time$hint ..."
     build_crates || return 1
     record_built "$sum" || return 1
     rm -rf "$logs"
@@ -164,6 +166,7 @@ build_alone() {
         say "the toolchain's command rt is not on the PATH"
         return 1
     fi
+    logs=$made/build.$$
     mkdir -p "$made" && exec 9>"$made/lock" || return 1
     if ! flock -n 9; then
         say "another build is running; waiting for it ..."

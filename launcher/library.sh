@@ -4,16 +4,8 @@
 # The version of the interface: a program that was linked with one finds no other.
 interface=1
 
-# The archive that the toolchain makes once the library is proved.
-proved=$root/crates/metaplay_c/out/libmetaplay_c.a
-
-# Proves the library, and links it. Leaves libmetaplay.a, libmetaplay.so, libmetaplay.so.1 and metaplay.pc in a folder.
-# The last one is for a library that is installed below this prefix.
-make_library() {
-    (cd "$root/crates/metaplay_c" && rt lib) >"$1/library.log" 2>&1 && link_library "$1" "$2" "$proved"
-}
-
-# The same from the archive of the proved library.
+# Makes libmetaplay.a, libmetaplay.so.1 and metaplay.pc in a folder, from the archive that the toolchain made. They are
+# for a library that is installed below a prefix.
 link_library() {
     make_archive "$1" "$3" && link_shared "$1" && write_pc "$2" >"$1/metaplay.pc"
 }
@@ -21,16 +13,15 @@ link_library() {
 # One archive of the proved library, and of the toolchain's functions that call malloc.
 make_archive() {
     heap=$(dirname "$(readlink -f "$(command -v rt)")")/../c/liblibc_c.a
-    mkdir -p "$1/objects" && rm -f -- "$1"/objects/* "$1/libmetaplay.a" || return 1
-    (cd "$1/objects" && ar x "$2" && ar x "$heap" && ar rcs ../libmetaplay.a ./*) && rm -r -- "$1/objects"
+    mkdir "$1/objects" || return 1
+    (cd "$1/objects" && ar x "$2" && ar x "$heap" && ar rcsD ../libmetaplay.a ./*)
 }
 
 # The shared library, which defines no names but those of the header.
 link_shared() {
     echo '{ global: metaplay_*; local: *; };' >"$1/names.map" || return 1
     ${CC:-cc} -shared -o "$1/libmetaplay.so.$interface" -Wl,-soname,"libmetaplay.so.$interface" \
-        -Wl,--version-script="$1/names.map" -Wl,-z,defs -Wl,--whole-archive "$1/libmetaplay.a" -Wl,--no-whole-archive &&
-        ln -sf "libmetaplay.so.$interface" "$1/libmetaplay.so" && rm -f -- "$1/names.map"
+        -Wl,--version-script="$1/names.map" -Wl,-z,defs -Wl,--whole-archive "$1/libmetaplay.a" -Wl,--no-whole-archive
 }
 
 # What pkg-config reads.

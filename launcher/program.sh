@@ -1,28 +1,39 @@
-# The proved program, and whether it is the one that was built from the sources as they are.
+# The proved program and the proved library for C, and whether they were built from the sources as they are.
 # shellcheck shell=sh disable=SC2154
 
-main=meta_main
-made=$root/crates/$main/out
-program=$made/$main
+# Has the functions below speak of one of the two: of the file that the toolchain makes of a crate.
+choose() {
+    main=$1
+    made=$root/crates/$main/out
+    built=$made/$2
+    # What was built: the checksums of the sources and of the file, the program's version, and that of the toolchain, a
+    # line each.
+    sums=$made/built.sums
+    # The size, the time of the last change and the name of each of these files. As long as this listing stays the
+    # same, no checksum is computed again.
+    listing=$made/built.list
+}
 
-# The source that has the program's version and the checksum of all other sources.
+choose_program() {
+    choose meta_main meta_main
+}
+
+choose_library() {
+    choose metaplay_c libmetaplay_c.a
+}
+
+choose_program
+
+# The source that has the program's version and the checksum of its other sources.
 version=crates/$main/src/version.rt
 
-# What was built: the checksums of the sources and of the program, the program's version, and that of the toolchain, a
-# line each.
-sums=$made/built.sums
-
-# The size, the time of the last change and the name of each of these files. As long as this listing stays the same,
-# no checksum is computed again.
-listing=$made/built.list
-
-# Each crate that the program stands on, and its own: a line with its name and the names of the libraries below it.
+# Each crate that the file stands on, and its own: a line with its name and the names of the libraries below it.
 crates() {
     awk -v main="$main" '
         { sub(/#.*/, "") }
-        /^[a-z0-9_]+ *:/ {
-            name = $0
-            sub(/ *:.*/, "", name)
+        /^[a-z0-9_]+( staticlib)? *:/ {
+            name = $1
+            sub(/:.*/, "", name)
             sub(/^[^:]*:/, "")
             names[++count] = name
             below[name] = $0
@@ -46,10 +57,10 @@ source_folders() {
     done
 }
 
-# The size, the time of the last change and the name of each source, of the program and of the toolchain's commands.
+# The size, the time of the last change and the name of each source, of the file and of the toolchain's commands.
 listed() {
     # shellcheck disable=SC2046
-    (cd "$root" && find crates.txt $(source_folders) "crates/$main/out/$main" -type f -printf '%s %T@ %p\n')
+    (cd "$root" && find crates.txt $(source_folders) "${built#"$root"/}" -type f -printf '%s %T@ %p\n')
     if kit=$(command -v rt); then
         find "$(dirname "$(readlink -f "$kit")")" -maxdepth 1 -type f -printf '%s %T@ %p\n'
     fi
@@ -64,6 +75,7 @@ sources_sum() {
 
 # What the source of the version has to be, by the newest entry of CHANGELOG.md and by the other sources.
 version_text() {
+    choose_program
     number=$(sed -n 's/^## \([0-9.]*\).*/\1/p' "$root/CHANGELOG.md" | head -n 1)
     cat <<END
 //! The program's version. This file is written by \`launcher/version\`.
@@ -80,7 +92,7 @@ write_version() {
     [ "$text" = "$(cat "$root/$version" 2>/dev/null)" ] || printf '%s\n' "$text" | put "$root/$version"
 }
 
-# The toolchain's version. Without a toolchain nothing can be built, so the one that built the program counts.
+# The toolchain's version. Without a toolchain nothing can be built, so the one that built the file counts.
 toolchain() {
     rt version 2>/dev/null || sed -n 's/^toolchain //p' "$sums"
 }
@@ -88,7 +100,7 @@ toolchain() {
 # What is there now, as it stands in $sums.
 sums_now() {
     echo "sources $(sources_sum)"
-    echo "program $(sha256sum <"$program" | cut -d ' ' -f 1)"
+    echo "built $(sha256sum <"$built" | cut -d ' ' -f 1)"
     echo "version $(sed -n 's/^ *"\(.*\)\\n";$/\1/p' "$root/$version" 2>/dev/null)"
     echo "toolchain $(toolchain)"
 }
@@ -98,9 +110,14 @@ put() {
     cat >"$1.$$" && mv -f "$1.$$" "$1"
 }
 
-# Whether the program is there, and was built from the sources as they are, by this toolchain.
+# Whether the file can be used: the program run, or the library read.
+is_usable() {
+    if [ "$main" = meta_main ]; then [ -x "$built" ]; else [ -r "$built" ]; fi
+}
+
+# Whether the file is there, and was built from the sources as they are, by this toolchain.
 is_fresh() {
-    [ -r "$root/crates.txt" ] && [ -x "$program" ] && [ -r "$sums" ] || return 1
+    [ -r "$root/crates.txt" ] && is_usable && [ -r "$sums" ] || return 1
     now=$(listed 2>/dev/null)
     [ "$now" = "$(cat "$listing" 2>/dev/null)" ] && return 0
     [ "$(sums_now)" = "$(cat "$sums")" ] || return 1
@@ -108,7 +125,15 @@ is_fresh() {
     return 0
 }
 
-# Records that the program was proved and built from the sources that had this checksum, if they still have it.
+# Has the file proved and built, if it isn't fresh.
+have_built() {
+    is_fresh && return 0
+    # shellcheck source=launcher/build.sh
+    . "$root/launcher/build.sh"
+    build_alone
+}
+
+# Records that the file was proved and built from the sources that had this checksum, if they still have it.
 record_built() {
     now=$(listed)
     if [ "$(sources_sum)" != "$1" ]; then

@@ -1,4 +1,4 @@
-"""The library for C as tests call it: built once a process, with the examples that use it."""
+"""The library for C as tests call it: installed once a process, with the examples that use it."""
 
 import atexit
 import ctypes
@@ -9,9 +9,8 @@ import shutil
 import subprocess
 import tempfile
 
+import archive
 from built import ROOT
-from edit_trials import rt
-from edits import build_libraries
 
 EXAMPLES = ROOT / "examples"
 
@@ -29,60 +28,39 @@ def example():
 SHOW = example()
 
 
-def are_left(crate):
-    """Whether the libraries below a crate are there as `rt ci` leaves them, however old they are: those that it kept are older than the sources."""
-    return all(pathlib.Path(it.rlib, "format").exists() and not pathlib.Path(it.rlib, "stamp").exists() for it in crate.below())
-
-
-def archive(made):
-    """The archive of the library, which is proved over the libraries that `rt ci` leaves."""
-    crate = next(it for it in rt.rtlib.crates_below(str(ROOT)) if it.name == "metaplay_c")
-    if not are_left(crate) and not build_libraries(crate):
-        raise AssertionError("the libraries below can't be built")
-    path = made / "libmetaplay_c.a"
-    words = crate.words(["--jobs", "1"], keeps=False)
-    words = [rt.rtlib.RATTLE, "build", *words, "--toolchain", f"{rt.rtlib.KIT}/toolchain", "--backend", "llvm", "-o", path]
-    ran = subprocess.run([*rt.rtlib.guarded(), *words], cwd=crate.folder, stdout=subprocess.PIPE, stderr=subprocess.STDOUT, text=True, check=False)
-    if ran.returncode or "\nlogic=proved " not in ran.stdout:
-        raise AssertionError(ran.stdout)
-    return path
-
-
 @functools.cache
 def folder():
-    """A folder with the library, linked as `packaging/make_library` links it."""
-    made = pathlib.Path(tempfile.mkdtemp(prefix="c-library-"))
-    atexit.register(shutil.rmtree, made)
-    words = 'root=$1 && . "$1/launcher/library.sh" && link_library "$2" "$2/usr" "$3"'
-    ran = subprocess.run(["sh", "-uc", words, "sh", ROOT, made, archive(made)], capture_output=True, text=True, check=False)
-    if ran.returncode or ran.stdout or ran.stderr:
-        raise AssertionError(ran.stdout + ran.stderr)
-    return made
+    """A folder in which the library is installed."""
+    prefix = pathlib.Path(tempfile.mkdtemp(prefix="c-library-"))
+    atexit.register(shutil.rmtree, prefix)
+    archive.have_built()
+    subprocess.run([ROOT / "metaplay", "install", prefix], check=True)
+    return prefix
 
 
 def compiled(source, name, words):
     """A C program, compiled with no warning."""
     program = folder() / name
-    subprocess.run(["cc", *STRICT, "-O1", f"-I{ROOT / 'include'}", source, *words, "-o", program], check=True)
+    subprocess.run(["cc", *STRICT, "-O1", f"-I{folder() / 'include'}", source, *words, "-o", program], check=True)
     return program
 
 
 @functools.cache
 def linked_show():
     """The C example, linked with the archive."""
-    return compiled(EXAMPLES / "show.c", "show", [folder() / "libmetaplay.a"])
+    return compiled(EXAMPLES / "show.c", "show", [folder() / "lib/libmetaplay.a"])
 
 
 @functools.cache
 def loading_show():
     """The C example, which loads the shared library."""
-    return compiled(EXAMPLES / "show.c", "show_shared", [f"-L{folder()}", "-lmetaplay", f"-Wl,-rpath,{folder()}"])
+    return compiled(EXAMPLES / "show.c", "show_shared", [f"-L{folder()}/lib", "-lmetaplay", f"-Wl,-rpath,{folder()}/lib"])
 
 
 @functools.cache
 def library():
     """The functions of the shared library, on bytes."""
-    return SHOW.Metaplay(str(folder() / "libmetaplay.so"))
+    return SHOW.Metaplay(str(folder() / "lib/libmetaplay.so"))
 
 
 def numbers(answer):

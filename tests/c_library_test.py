@@ -6,7 +6,6 @@ import json
 import pathlib
 import re
 import resource
-import string
 import subprocess
 import sys
 import tempfile
@@ -110,7 +109,7 @@ class Examples(unittest.TestCase):
         self.assertEqual(ran([linked_show(), SAMPLES / HELD_OBJECT, 4, 4]), Answer(1, b"", b"metaplay: HeldObject at record 5\n"))
 
     def test_the_python_example_shows_each_sample_in_its_proportion(self):
-        path = str(folder() / "libmetaplay.so")
+        path = str(folder() / "lib/libmetaplay.so")
         for name in NAMES:
             with self.subTest(name=name):
                 told = ran([sys.executable, "-B", EXAMPLES / "show.py", path, SAMPLES / name, *SIDES])
@@ -129,19 +128,19 @@ class Headers(unittest.TestCase):
                 self.assertEqual((done.returncode, done.stderr), (0, ""))
 
     def test_the_shared_library_defines_the_names_of_the_header_alone(self):
-        listed = subprocess.run(["nm", "-D", "--defined-only", folder() / "libmetaplay.so"], capture_output=True, text=True, check=True).stdout
+        listed = subprocess.run(["nm", "-D", "--defined-only", folder() / "lib/libmetaplay.so"], capture_output=True, text=True, check=True).stdout
         declared = re.findall(r"(?m)^metaplay_answer (metaplay_\w+)\(", (ROOT / "include/metaplay.h").read_text(encoding="utf-8"))
         self.assertEqual(sorted(it.split()[-1].split("@")[0] for it in listed.splitlines()), sorted(declared))
         self.assertEqual(sorted(SHOW.FUNCTIONS), sorted(declared))
 
     def test_the_file_for_pkg_config_names_what_is_installed(self):
-        lines = (folder() / "metaplay.pc").read_text(encoding="utf-8").splitlines()
-        variables = string.Template("\n".join(line for line in lines if not line.startswith("prefix="))).substitute
-        self.assertEqual(lines[0], f"prefix={folder()}/usr")
-        self.assertIn("Cflags: -I/p/include", variables(prefix="/p", includedir="/p/include", libdir="/p/lib").splitlines())
-        self.assertIn("Libs: -L/p/lib -lmetaplay", variables(prefix="/p", includedir="/p/include", libdir="/p/lib").splitlines())
-        self.assertIn("libdir=/p/lib", variables(prefix="/p", includedir="", libdir="").splitlines())
-        self.assertIn("includedir=/p/include", variables(prefix="/p", includedir="", libdir="").splitlines())
+        text = (folder() / "lib/pkgconfig/metaplay.pc").read_text(encoding="utf-8")
+        paths = {"prefix": str(folder()), "includedir": f"{folder()}/include", "libdir": f"{folder()}/lib"}
+        for name, path in paths.items():
+            text = text.replace(f"${{{name}}}", path)
+        flags = [f"Cflags: -I{paths['includedir']}", f"Libs: -L{paths['libdir']} -lmetaplay"]
+        for line in [*(f"{name}={path}" for name, path in paths.items()), *flags]:
+            self.assertIn(line, text.splitlines())
 
 
 class Calls(unittest.TestCase):
@@ -263,7 +262,7 @@ class Memory(unittest.TestCase):
     """Stacks that are small, and allocations that fail."""
 
     def test_a_call_needs_little_stack(self):
-        program = compiled(ROOT / "tests/used_stack.c", "used_stack", ["-D_POSIX_C_SOURCE=200809L", folder() / "libmetaplay.a", "-lpthread"])
+        program = compiled(ROOT / "tests/used_stack.c", "used_stack", ["-D_POSIX_C_SOURCE=200809L", folder() / "lib/libmetaplay.a", "-lpthread"])
         stated = re.search(r"stack has (\d+) KiB left", (ROOT / "include/metaplay.h").read_text(encoding="utf-8"))
         for name in NAMES:
             done = subprocess.run([program, SAMPLES / name, "200"], capture_output=True, text=True, check=True)

@@ -106,14 +106,26 @@ def can_stay_unproved(text, function):
     return "#[tactic(" not in attributes
 
 
+def without_body(text, function, indent):
+    """A function's text with a body that is never reached. A `const fn` keeps its own, since the compiler may
+    run it, and so does one of a cycle, since it has to be in one."""
+    whole = text[function.start : function.end]
+    attributes = re.search(r"(?m)(?:^ *(?:#\[.*|///.*)\n)*\Z", text[: function.start])[0]
+    begin = re.search(rf"(?m)^{indent}\{{$|(?<= )\{{$", whole)
+    if "const fn" in whole.split("(")[0] or "#[cycle(" in attributes or not begin:
+        return whole
+    return f"{whole[: begin.end()]}\n{indent}    unreachable!()\n{indent}}}"
+
+
 def unproved(crate, sources, asked):
-    """The texts of a crate's files in which the prover leaves the goals of functions, but for those that are asked, and the names of the others."""
+    """The texts of a crate's files in which functions have no body and the prover leaves their goals, but for those that are asked, and the names of
+    the others."""
     texts, others = dict(sources), set()
     for path, text in sources.items():
         left = [it for it in functions(crate, sources, path) if it.name not in asked and can_stay_unproved(text, it)]
         for it in reversed(left):
             indent = re.match(" *", text[it.start :])[0]
-            texts[path] = f"{texts[path][: it.start]}{indent}#[tactic(none)]\n{texts[path][it.start :]}"
+            texts[path] = f"{texts[path][: it.start]}{indent}#[tactic(none)]\n{without_body(text, it, indent)}{texts[path][it.end :]}"
         others |= {it.name for it in left}
     return texts, others
 

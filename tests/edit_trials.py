@@ -73,7 +73,8 @@ def copy_of(crate, texts, unanswered=()):
         for path, text in texts.items():
             pathlib.Path(room, path).write_text(text, encoding="utf-8")
         for name in unanswered:
-            pathlib.Path(room, "proofs", *name.split("::")[1:], "Answers.antt").unlink(missing_ok=True)
+            for file in ("Answers.antt", "Invariants.antt"):
+                pathlib.Path(room, "proofs", *name.split("::")[1:], file).unlink(missing_ok=True)
         yield room
 
 

@@ -133,14 +133,29 @@ class Unproved(unittest.TestCase):
     """The texts in which the prover leaves other functions than those that are asked."""
 
     def test_others_are_left(self):
-        """Each other function has the attribute on a line of its own, as far in as the function, and a trait's functions have none."""
+        """Each other function has the attribute on a line of its own, as far in as the function, and no body. A trait's functions stay."""
         texts, others = unproved("shapes", SOURCES, ["shapes::sides::Side::area"])
-        self.assertEqual(texts["src/lib.rt"], SOURCES["src/lib.rt"].replace("pub fn twice", "#[tactic(none)]\npub fn twice"))
-        self.assertEqual(texts["src/sides.rt"].count("    #[tactic(none)]\n    fn half(self)"), 1)
-        self.assertIn("\n\n    fn area(self)", texts["src/sides.rt"])
+        twice = "#[tactic(none)]\npub fn twice(side: i32) -> i32 {\n    unreachable!()\n}"
+        self.assertEqual(texts["src/lib.rt"], SOURCES["src/lib.rt"].replace("pub fn twice(side: i32) -> i32 {\n    side * 2\n}", twice))
+        self.assertIn("    #[tactic(none)]\n    fn half(self) -> i32 {\n        unreachable!()\n    }\n}\n", texts["src/sides.rt"])
+        self.assertIn("\n\n    fn area(self) -> i32 {\n        self.length * self.length\n    }\n}\n", texts["src/sides.rt"])
         self.assertEqual(texts["src/sides.rt"].count("tactic"), 3)
         every = {it.name for path in SOURCES for it in functions("shapes", SOURCES, path)}
         self.assertEqual(others, every - {"shapes::sides::Side::area", "shapes::Half::half"})
+
+    def test_a_body_that_has_to_stay_stays(self):
+        """The compiler may run a `const fn`, and functions of a cycle have to call one another."""
+        texts, _ = unproved("shapes", SOURCES, [])
+        self.assertIn("    #[tactic(none)]\n    pub const fn new(length: i32) -> Side {\n        Side { length }\n    }\n", texts["src/sides.rt"])
+        text = "#[cycle(parity)]\nfn even(n: u8) -> bool\n    ensures { result ≡ n }\n{\n    odd(n)\n}\n"
+        texts, _ = unproved("shapes", {"src/lib.rt": text}, [])
+        self.assertEqual(texts, {"src/lib.rt": text.replace("fn even", "#[tactic(none)]\nfn even")})
+
+    def test_a_contract_stays(self):
+        """The body begins after it."""
+        text = "fn one(\n    n: u8,\n) -> u8\n    requires { n ≡ 1 }\n    ensures { result ≡ n }\n{\n    match n {\n        1 => 1,\n    }\n}\n"
+        texts, _ = unproved("shapes", {"src/lib.rt": text}, [])
+        self.assertEqual(texts, {"src/lib.rt": f"#[tactic(none)]\n{text[: text.index('    match')]}    unreachable!()\n}}\n"})
 
     def test_a_function_with_such_an_attribute_stays(self):
         """The prover takes no second attribute about a function's proof; others may stand before the function."""

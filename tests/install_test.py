@@ -9,6 +9,7 @@ import sys
 import tempfile
 import unittest
 
+import archive
 from built import DOT, DOT_IMAGE, PROGRAMS, ROOT, Answer, answer
 
 sys.path.insert(0, str(ROOT / "packaging"))
@@ -24,6 +25,11 @@ INSTALLED = {
     "share/bash-completion/completions/metaplay": False,
     "share/zsh/site-functions/_metaplay": False,
     "share/fish/vendor_completions.d/metaplay.fish": False,
+    "include/metaplay.h": False,
+    "lib/libmetaplay.a": False,
+    "lib/libmetaplay.so": False,
+    "lib/libmetaplay.so.1": False,
+    "lib/pkgconfig/metaplay.pc": False,
     **{f"share/metaplay/recipes/{it.name}": os.access(it, os.X_OK) for it in (ROOT / "docs/recipes").iterdir()},
 }
 
@@ -43,6 +49,10 @@ def files_in(folder):
 class Installation(unittest.TestCase):
     """Files that are installed."""
 
+    @classmethod
+    def setUpClass(cls):
+        archive.have_built()
+
     def setUp(self):
         self.folder = pathlib.Path(tempfile.mkdtemp())
         self.addCleanup(shutil.rmtree, self.folder)
@@ -56,6 +66,16 @@ class Installation(unittest.TestCase):
         self.assertEqual(launched("uninstall", str(prefix)), Answer(0, b"", b""))
         self.assertEqual(files_in(prefix), {"bin/other": False})
         self.assertFalse((prefix / "share/metaplay").exists())
+
+    @unittest.skipUnless(shutil.which("pkg-config"), "pkg-config is not on this machine")
+    def test_a_program_is_built_with_the_installed_library(self):
+        prefix, program = self.folder / "usr", self.folder / "show"
+        self.assertEqual(launched("install", str(prefix)), Answer(0, b"", b""))
+        settings = {**os.environ, "PKG_CONFIG_PATH": f"{prefix}/lib/pkgconfig", "LD_LIBRARY_PATH": f"{prefix}/lib"}
+        words = f"cc {ROOT}/examples/show.c $(pkg-config --cflags --libs metaplay) -o {program}"
+        subprocess.run(["sh", "-c", words], check=True, env=settings)
+        ran = subprocess.run([program, ROOT / "samples/dot.wmf", "4", "4"], capture_output=True, check=True, env=settings)
+        self.assertEqual(ran.stdout, DOT_IMAGE)
 
     def test_a_package_is_made_below_destdir(self):
         self.assertEqual(launched("install", "/usr/", DESTDIR=str(self.folder)), Answer(0, b"", b""))
@@ -75,6 +95,7 @@ class Installation(unittest.TestCase):
         subprocess.run(["dpkg-deb", "-x", package, whole], check=True)
         compressed = {"share/man/man1/metaplay.1": "share/man/man1/metaplay.1.gz"}
         wanted = {compressed.get(name, name): is_program for name, is_program in INSTALLED.items()} | {"share/doc/metaplay/changelog.gz": False}
+        self.assertEqual(subprocess.run(["dpkg-deb", "-I", package, "triggers"], capture_output=True, check=True).stdout, b"activate-noawait ldconfig\n")
         self.assertEqual(files_in(whole / "usr"), wanted)
         self.assertEqual(answer(whole / "usr/bin/metaplay", ["show", "stdin", "4", "4"], DOT), Answer(0, DOT_IMAGE, b""))
         if shutil.which("lintian"):

@@ -1,5 +1,4 @@
-"""The launcher: when it builds, when it doesn't, and what it does meanwhile. A script stands in for the toolchain, since a real build takes half an
-hour."""
+"""The launcher: when it builds, when it doesn't, and what it does meanwhile."""
 
 import os
 import pathlib
@@ -13,88 +12,14 @@ import time
 import unittest
 
 from built import DOT, DOT_IMAGE, ROOT, SAMPLES, Answer, answer
-
-# The toolchain's command. It writes down each call and waits as long as the file `seconds` says. A program that it builds prints the source.
-RT = """#!/bin/sh
-kit=$(dirname "$0")/../kit
-case $1 in
-    version) cat "$kit/version"; exit ;;
-    try) echo "tried $*"; exit ;;
-esac
-echo "$(basename "$PWD")" >>"$kit/calls"
-[ -e "$kit/says" ] && cat "$kit/says"
-sleep "$(cat "$kit/seconds")"
-[ -e "$kit/fails" ] && exit 1
-[ -e "$kit/changes" ] && echo "// changed" >>../low/src/lib.rt
-if [ "$1" = run ]; then
-    { echo '#!/bin/sh'; echo "echo $(cat src/main.rt)"; } >out/meta_main
-    chmod +x out/meta_main
-fi
-exit 0
-"""
-
-CRATES = {"low/src/lib.rt": "low\n", "low/proofs/Lib.antt": "proof\n", "meta_main/src/main.rt": "first\n"}
-
-CRATES_TXT = "# The lowest.\nlow:\ntest_of_low: low\nmeta_main: low\n"
+from launcher_folder import Folder
 
 # At most so many seconds of processor for a call of a program that is built, those of the program included.
 MOST_SECONDS = 0.05
 
 
-class Launcher(unittest.TestCase):
-    """A folder with the launcher, two small crates and a toolchain."""
-
-    def setUp(self):
-        folder = tempfile.TemporaryDirectory(ignore_cleanup_errors=True)
-        self.addCleanup(folder.cleanup)
-        self.folder = pathlib.Path(folder.name)
-        self.root = self.folder / "a folder"
-        self.kit = self.folder / "kit"
-        for path in (self.root, self.kit, self.folder / "bin"):
-            path.mkdir()
-        shutil.copy(ROOT / "metaplay", self.root)
-        shutil.copytree(ROOT / "launcher", self.root / "launcher")
-        for name, text in CRATES.items():
-            self.write(f"crates/{name}", text)
-        self.write("crates.txt", CRATES_TXT)
-        self.write("CHANGELOG.md", "# Changelog\n\n## 2.3.4\n\n## 2.3.3\n")
-        self.write("samples/dot.wmf", "")
-        (self.folder / "bin/rt").write_text(RT)
-        (self.folder / "bin/rt").chmod(0o755)
-        (self.kit / "version").write_text("first kit\n")
-        (self.kit / "seconds").write_text("0")
-        self.settings = {**os.environ, "PATH": f"{self.folder}/bin:{os.environ['PATH']}"}
-        self.without = {**os.environ, "PATH": "/usr/bin:/bin"}
-
-    def write(self, name, text):
-        """A file in the folder."""
-        (self.root / name).parent.mkdir(parents=True, exist_ok=True)
-        (self.root / name).write_text(text)
-
-    def begin(self, *words, root=None, settings=None):
-        """A running launcher, in a group of processes of its own."""
-        streams = dict.fromkeys(("stdout", "stderr"), subprocess.PIPE)
-        words = [(root or self.root) / "metaplay", *words]
-        return subprocess.Popen(words, env=settings or self.settings, stdin=subprocess.DEVNULL, text=True, start_new_session=True, **streams)
-
-    def call(self, *words, **how):
-        """The launcher's status, its output, and its messages."""
-        run = self.begin(*words, **how)
-        out, err = run.communicate(timeout=60)
-        return run.returncode, out, err
-
-    def calls(self):
-        """The crates that the toolchain was called for, in order, since the last time."""
-        path = self.kit / "calls"
-        names = path.read_text().split() if path.exists() else []
-        path.unlink(missing_ok=True)
-        return names
-
-    def is_run(self, text, built, **how):
-        """Checks that a call runs the program, which prints this text, after builds of these crates."""
-        status, out, err = self.call("list", "x", **how)
-        self.assertEqual((status, out, self.calls()), (0, f"{text}\n", built), err)
-        return err
+class Launcher(Folder):
+    """Calls that build the program, and calls that don't."""
 
     def test_it_builds_once(self):
         err = self.is_run("first", ["low", "meta_main"])

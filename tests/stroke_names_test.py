@@ -54,7 +54,7 @@ class Counts(unittest.TestCase):
     """What is counted of this repository."""
 
     def test_tests_and_examples_are_left_out(self):
-        files = {path: "in_stroke" for path in ("player/src/a.rt", "play_tests/src/a.rt", "example_play/src/main.rt", "player/specs/A.antt")}
+        files = {path: "in_stroke" for path in ("player/src/a.rt", "play_tests/src/a.rt", "example_calls/src/main.rt", "player/specs/A.antt")}
         self.assertEqual([it.path for it in namings(files)], ["player/specs/A.antt", "player/src/a.rt"])
         self.assertEqual(table(namings(files)).split("\n")[-1].split(), ["all", "1", "1", "0", "2"])
 

@@ -1,0 +1,61 @@
+"""The launcher's `install` and `uninstall`: what they have built before, and when they install nothing."""
+
+import shutil
+import subprocess
+import unittest
+
+from built import ROOT
+from launcher_folder import Folder
+
+
+class Installing(Folder):
+    """Installations, with a library for C that has one function."""
+
+    def setUp(self):
+        super().setUp()
+        for name in ("packaging", "include", "docs/recipes"):
+            shutil.copytree(ROOT / name, self.root / name)
+        (self.folder / "c").mkdir()
+        for name, path in [("metaplay_none", self.kit / "archive"), ("kit_none", self.folder / "c/liblibc_c.a")]:
+            subprocess.run(["cc", "-x", "c", "-c", "-", "-o", self.kit / f"{name}.o"], input=f"void {name}(void) {{}}", text=True, check=True)
+            subprocess.run(["ar", "rcs", path, self.kit / f"{name}.o"], check=True)
+        self.prefix = self.folder / "installed"
+
+    def is_installed(self, built):
+        """Checks that an installation goes well, after builds of these crates."""
+        status, out, err = self.call("install", str(self.prefix))
+        self.assertEqual((status, out, self.calls()), (0, "", built), err)
+
+    def test_the_program_and_the_library_are_built_once(self):
+        self.is_installed(["low", "meta_main", "low", "metaplay_c"])
+        self.assertTrue((self.prefix / "lib/libmetaplay.so").exists())
+        self.is_installed([])
+        self.is_run("first", [])
+        self.write("crates/metaplay_c/src/lib.rt", "changed\n")
+        self.is_run("first", [])
+        self.is_installed(["low", "metaplay_c"])
+
+    def test_a_recorded_library_is_not_built(self):
+        self.is_run("first", ["low", "meta_main"])
+        (self.root / "crates/metaplay_c/out").mkdir()
+        shutil.copy(self.kit / "archive", self.root / "crates/metaplay_c/out/libmetaplay_c.a")
+        record = [self.root / "launcher/record", "--library"]
+        sources = subprocess.run(record, capture_output=True, text=True, check=True, env=self.settings).stdout.strip()
+        subprocess.run([*record, sources], check=True, env=self.settings)
+        self.is_installed([])
+        self.is_run("first", [])
+
+    def test_nothing_is_installed_without_the_library(self):
+        self.is_run("first", ["low", "meta_main"])
+        (self.kit / "fails").touch()
+        status, out, err = self.call("install", str(self.prefix))
+        self.assertEqual((status, out), (3, ""))
+        self.assertRegex(err, r"metaplay: low could not be built; see .*low\.log\n")
+        self.assertFalse(self.prefix.exists())
+
+    def test_nothing_is_built_to_uninstall(self):
+        self.assertEqual((self.call("uninstall", str(self.prefix)), self.calls()), ((0, "", ""), []))
+
+
+if __name__ == "__main__":
+    unittest.main()
