@@ -160,8 +160,9 @@ class RefusedGrowth(unittest.TestCase):
             yield number, answered
 
     def test_the_program_answers_a_refusal_or_as_ever(self):
+        # The program of the other compiler is of the same code: it has the lines without states.
         for program in PROGRAMS:
-            for words, given in LINES:
+            for words, given in LINES if program == PROGRAMS[0] else LINES[: -len(STATE_SCRIPTS)]:
                 ample = answer(program, words, given)
                 refusals = 0
                 for number, answered in self.under_refusals(program, words, given):
@@ -259,7 +260,7 @@ class RefusedGrowth(unittest.TestCase):
         # Files of one length, with a thousand records before the end or behind it, and surfaces of
         # 16 pixels and of 90,000.
         repeated = [*itertools.product(FORMS, REPEATED), *itertools.product([EMF], REPEATED_PATHS)]
-        for program, (form, script) in itertools.product(PROGRAMS, repeated):
+        for program, (form, script) in itertools.product(PROGRAMS[:1], repeated):
             once, more = form.records(script), 1000 * form.records(script)
             few = form.file([*once, form.end, *more], SIDE, HANDLES)
             many = form.file([*once, *more, form.end], SIDE, HANDLES)
