@@ -2,4 +2,4 @@
 
 /// The line that `--version` writes: the version, and the checksum of all sources but this one.
 pub(crate) const VERSION: &str =
-    "metaplay 1.0.0 (sources 94b937bfbff34fc95bea08f5ab32b33d46564dfb7056fc0330cee5b4adacb3b7)\n";
+    "metaplay 1.0.0 (sources b2bcd6d3aa8bc79689ef305d074bea542bb7a10057417f37ca16c9868451b351)\n";

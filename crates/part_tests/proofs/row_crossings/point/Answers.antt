@@ -4,7 +4,7 @@ use Rattle.std.proofs.Common.{◌≡◌, FitsSigned, w32, ℤ, to_z, of_z, arith
 use Rattle.std.proofs.lemmas.Int.{ints, to_z-of_z}
 use Rattle.mapping.specs.Limits.{place_limit}
 use Rattle.span_fill.specs.Lines.{IsNear}
-use Rattle.play_tests.proofs.row_crossings.point.Goals as goal
+use Rattle.part_tests.proofs.row_crossings.point.Goals as goal
 
 near : (v z : ℤ) → FitsSigned w16 v → z ≡ to_z w16 (of_z w16 v) → IsNear z
 unfolding place_limit

@@ -3,7 +3,7 @@ use Rattle.std.proofs.Common.{FitsSigned, w32, ℕ, pos, ◌<◌, arith, rules}
 use Rattle.std.proofs.lemmas.Int.{ints, to_z-of_z}
 use Rattle.mapping.specs.Limits.{place_limit}
 use Rattle.span_fill.specs.Lines.{IsNear}
-use Rattle.play_tests.proofs.many_edges.upright.Goals as goal
+use Rattle.part_tests.proofs.many_edges.upright.Goals as goal
 
 small : (n : ℕ) → n < 256 → IsNear (pos n)
 unfolding place_limit
