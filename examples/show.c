@@ -9,6 +9,7 @@
  *
  *     cc show.c $(pkg-config --cflags --libs metaplay) -o show
  */
+#include <limits.h>
 #include <metaplay.h>
 #include <stdio.h>
 #include <stdlib.h>
@@ -67,7 +68,8 @@ static block read_file(const char *name)
     long length;
     block read;
 
-    if (file == NULL || fseek(file, 0, SEEK_END) != 0 || (length = ftell(file)) < 0)
+    /* A folder can be opened, and says that it is as long as can be. */
+    if (file == NULL || fseek(file, 0, SEEK_END) != 0 || (length = ftell(file)) < 0 || length == LONG_MAX)
         fail(3, "cannot read");
     rewind(file);
     read = allocate((size_t)length);

@@ -12,6 +12,8 @@ import sys
 
 DONE, REJECTED, TOO_SHORT, OUT_OF_MEMORY, NO_SUCH_FAULT = range(5)
 
+MOST_SIDE = 8192
+
 
 class Answer(ctypes.Structure):
     """The answer of a call, as `metaplay_answer` in include/metaplay.h."""
@@ -67,7 +69,8 @@ class Metaplay:
 
     def prepare(self, file, width, height):
         """The certificate of a file for surfaces of at most this size: a first call finds its length."""
-        needed = self.library.metaplay_prepare(file, len(file), width, height, ctypes.create_string_buffer(1), 0).length
+        first = self.library.metaplay_prepare(file, len(file), width, height, ctypes.create_string_buffer(1), 0)
+        needed = first.length if first.outcome == TOO_SHORT else self.demand(first)
         buffer = ctypes.create_string_buffer(max(needed, 1))
         length = self.demand(self.library.metaplay_prepare(file, len(file), width, height, buffer, needed))
         return buffer.raw[:length]
@@ -100,16 +103,26 @@ class Metaplay:
             raise Rejected(f"{self.fault_name(answer.fault)}{kind}{place}")
         if answer.outcome == OUT_OF_MEMORY:
             raise MemoryError
+        if answer.outcome != DONE:
+            raise ValueError(f"the call ended with outcome {answer.outcome}")
         return answer.length
+
+
+def side(word):
+    """A width or a height. The library takes numbers of 32 bits, to which ctypes would cut a larger one."""
+    if not (word.isascii() and word.isdigit() and 1 <= int(word) <= MOST_SIDE):
+        sys.exit(f"show.py: a side is a number from 1 to {MOST_SIDE}")
+    return int(word)
 
 
 def main(library, name, width, height):
     """Writes the image of a file."""
+    width, height = side(width), side(height)
     metaplay = Metaplay(library)
     with open(name, "rb") as source:
         file = source.read()
     try:
-        width, height = metaplay.fitted_sides(file, int(width), int(height))
+        width, height = metaplay.fitted_sides(file, width, height)
         image = metaplay.play(file, metaplay.prepare(file, width, height), width, height)
     except Rejected as fault:
         sys.exit(f"show.py: {fault}")

@@ -84,7 +84,7 @@ metaplay_answer metaplay_check(const uint8_t *file, size_t file_length, const ui
 /*
  * Prepares the certificate of a file for surfaces of at most this size, and copies it to the start of `out`. It is
  * accepted by `metaplay_check`. The width and the height must be from 1 to 8,192 (fault 8, BadBound). To learn the
- * length, call it with `out_length` 0.
+ * length, call it with `out_length` 0; `out` isn't null even then.
  */
 metaplay_answer metaplay_prepare(const uint8_t *file, size_t file_length, uint32_t width, uint32_t height,
                                  uint8_t *out, size_t out_length);
@@ -92,7 +92,8 @@ metaplay_answer metaplay_prepare(const uint8_t *file, size_t file_length, uint32
 /*
  * Checks a certificate against a file, plays the file on a white surface of this size, and writes the image to the
  * start of `out`: red, green and blue of each pixel, from the left, row by row from the top, without padding. It takes
- * 3 * width * height bytes. The file is played in bands, so beside `out` there is no second image in memory.
+ * 3 * width * height bytes. The picture is stretched to the surface; `metaplay_fitted_sides` finds sides that keep its
+ * proportion. The file is played in bands, so beside `out` there is no second image in memory.
  *
  * The first of these decides: the width or the height isn't from 1 to 8,192 (fault 8, BadBound); `metaplay_check`
  * rejects the pair; the surface exceeds the certificate's bound (fault 42, SurfaceTooLarge); `out` is too short; an

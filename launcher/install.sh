@@ -5,6 +5,9 @@
 # shellcheck source=launcher/library.sh
 . "$root/launcher/library.sh"
 
+# The recipe that has the path of the program in it.
+filter=$root/docs/recipes/metaplaytopnm
+
 # Calls a function for each file to install, with its mode, where it is, and its place below the prefix.
 each_file() {
     "$1" 755 "$program" bin/metaplay
@@ -14,7 +17,11 @@ each_file() {
     "$1" 644 "$root/packaging/metaplay.fish" share/fish/vendor_completions.d/metaplay.fish
     for recipe in "$root"/docs/recipes/*; do
         if [ -x "$recipe" ]; then mode=755; else mode=644; fi
-        "$1" "$mode" "$recipe" "share/metaplay/recipes/${recipe##*/}"
+        [ "$recipe" = "$filter" ] || "$1" "$mode" "$recipe" "share/metaplay/recipes/${recipe##*/}"
+    done
+    "$1" 755 "$linked/metaplaytopnm" share/metaplay/recipes/metaplaytopnm
+    for page in RECIPES FAULTS FORMATS PIXELS; do
+        "$1" 644 "$root/docs/$page.md" "share/doc/metaplay/$page.md"
     done
     "$1" 644 "$root/include/metaplay.h" include/metaplay.h
     "$1" 644 "$linked/libmetaplay.a" lib/libmetaplay.a
@@ -34,32 +41,54 @@ take_prefix() {
 }
 
 install_one() {
-    install -D -m "$1" -- "$2" "$place/$3" || exit 3
+    install -D -T -m "$1" -- "$2" "$place/$3" || exit 3
 }
 
 remove_one() {
+    if [ -e "$place/$3" ]; then found=1; fi
     rm -f -- "$place/$3" || exit 3
+}
+
+# Whether the commands are there that linking the library takes.
+can_link() {
+    for command in rt ar "${CC:-cc}"; do
+        if ! command -v "$command" >/dev/null; then
+            say "install needs $command, which is not on the PATH"
+            return 1
+        fi
+    done
+}
+
+# A folder for what is linked, which is removed in the end, after a signal too.
+take_folder() {
+    linked=$(mktemp -d) || exit 3
+    trap 'rm -rf -- "$linked"' EXIT
+    trap 'exit 130' INT
+    trap 'exit 143' TERM
+    trap 'exit 129' HUP
 }
 
 # The program and the library are built first, so that nothing is installed if one of them can't be.
 install_all() {
     take_prefix "$@"
-    have_built || exit 3
+    can_link && have_built || exit 3
     choose_library
     have_built || exit 3
-    linked=$(mktemp -d) || exit 3
-    trap 'rm -rf -- "$linked"' EXIT
+    take_folder
     link_library "$linked" "$prefix" "$built" || exit 3
+    sed "s|/usr/local/bin/metaplay|$prefix/bin/metaplay|" "$filter" >"$linked/metaplaytopnm" || exit 3
     each_file install_one
-    ln -sf "libmetaplay.so.$interface" "$place/lib/libmetaplay.so" || exit 3
+    ln -sfnT -- "libmetaplay.so.$interface" "$place/lib/libmetaplay.so" || exit 3
 }
 
-# The folders of the recipes go too, if nothing else is in them.
+# The folders that have the program's name go too, if nothing else is in them.
 uninstall_all() {
     take_prefix "$@"
     linked=
+    found=
     each_file remove_one
     rm -f -- "$place/lib/libmetaplay.so" || exit 3
-    rmdir -- "$place/share/metaplay/recipes" "$place/share/metaplay" 2>/dev/null
+    rmdir -- "$place/share/metaplay/recipes" "$place/share/metaplay" "$place/share/doc/metaplay" 2>/dev/null
+    [ -n "$found" ] || say "nothing was installed below $place"
     return 0
 }

@@ -21,20 +21,20 @@ make_archive() {
 link_shared() {
     echo '{ global: metaplay_*; local: *; };' >"$1/names.map" || return 1
     ${CC:-cc} -shared -o "$1/libmetaplay.so.$interface" -Wl,-soname,"libmetaplay.so.$interface" \
-        -Wl,--version-script="$1/names.map" -Wl,-z,defs -Wl,--whole-archive "$1/libmetaplay.a" -Wl,--no-whole-archive
+        -Xlinker --version-script="$1/names.map" -Wl,-z,defs -Wl,--whole-archive "$1/libmetaplay.a" -Wl,--no-whole-archive
 }
 
-# What pkg-config reads.
+# What pkg-config reads. A `#` would begin a comment.
 write_pc() {
     cat <<END
-prefix=$1
+prefix=$(printf '%s' "$1" | sed 's/#/\\#/g')
 libdir=\${prefix}/lib
 includedir=\${prefix}/include
 
 Name: metaplay
 Description: Checks Windows metafiles (WMF, EMF), and plays those that pass
-Version: $interface
-Cflags: -I\${includedir}
-Libs: -L\${libdir} -lmetaplay
+Version: $(newest_version)
+Cflags: -I"\${includedir}"
+Libs: -L"\${libdir}" -lmetaplay
 END
 }

@@ -73,16 +73,20 @@ sources_sum() {
         xargs -0 sha256sum) | sha256sum | cut -d ' ' -f 1
 }
 
+# The version of the newest entry of CHANGELOG.md.
+newest_version() {
+    sed -n 's/^## \([0-9.]*\).*/\1/p' "$root/CHANGELOG.md" | head -n 1
+}
+
 # What the source of the version has to be, by the newest entry of CHANGELOG.md and by the other sources.
 version_text() {
     choose_program
-    number=$(sed -n 's/^## \([0-9.]*\).*/\1/p' "$root/CHANGELOG.md" | head -n 1)
     cat <<END
 //! The program's version. This file is written by \`launcher/version\`.
 
 /// The line that \`--version\` writes: the version, and the checksum of all sources but this one.
 pub(crate) const VERSION: &str =
-    "metaplay $number (sources $(sources_sum))\\n";
+    "metaplay $(newest_version) (sources $(sources_sum))\\n";
 END
 }
 

@@ -98,7 +98,7 @@ def faults():
     """The faults with their codes and meanings, as the page of faults has them."""
     page = (ROOT / "docs/FAULTS.md").read_text(encoding="utf-8")
     for code, name, said in re.findall(r"(?m)^\| (\d+) \| `(\w+)` \| ([^|]*) \|", page):
-        yield code, name, said.replace("`", "").strip()
+        yield code, name, re.sub(r"\[([^]]*)\]\([^)]*\)", r"\1", said).replace("`", "").strip()
 
 
 def long_options(command):
@@ -132,13 +132,18 @@ complete -F _metaplay metaplay
 """
 
 
+def quoted(text):
+    """A text as one word of a shell."""
+    return "'" + text.replace("'", "'\\''") + "'"
+
+
 def zsh(program):
     """The completions for zsh."""
     known = list(commands(program))
-    described = "".join(f"        {it.name!r}:{it.about!r}\n".replace("':'", ":") for it in known)
+    described = "".join(f"        {quoted(f'{it.name}:{it.about}')}\n" for it in known)
     cases = []
     for it in known:
-        options = "".join(f" '--{name}[{about}]{':number' if takes else ''}'" for name, about, takes in long_options(it))
+        options = "".join(f" {quoted(f'--{name}[{about}]' + ':number' * takes)}" for name, about, takes in long_options(it))
         cases.append(f"    {it.name}) _arguments{options} '*:file:_files' ;;\n")
     return f"""#compdef metaplay
 # Completions of metaplay for zsh. Made by packaging/make_manual.py.

@@ -138,7 +138,7 @@ class Headers(unittest.TestCase):
         paths = {"prefix": str(folder()), "includedir": f"{folder()}/include", "libdir": f"{folder()}/lib"}
         for name, path in paths.items():
             text = text.replace(f"${{{name}}}", path)
-        flags = [f"Cflags: -I{paths['includedir']}", f"Libs: -L{paths['libdir']} -lmetaplay"]
+        flags = [f"Cflags: -I\"{paths['includedir']}\"", f"Libs: -L\"{paths['libdir']}\" -lmetaplay"]
         for line in [*(f"{name}={path}" for name, path in paths.items()), *flags]:
             self.assertIn(line, text.splitlines())
 

@@ -5,6 +5,7 @@ without what it was refused; to nothing else, and to no half of an image.
 """
 
 import itertools
+import json
 import os
 import pathlib
 import re
@@ -170,6 +171,17 @@ class RefusedGrowth(unittest.TestCase):
                         self.assertIn(answered, [OUT_OF_MEMORY, ample])
                     refusals += answered == OUT_OF_MEMORY
                 self.assertGreater(refusals, 0, words)
+
+    def test_information_about_one_file_is_lost_alone(self):
+        # What is refused once is one file's, or is needed before the first line.
+        words = ["info", "stdin", SMALL_EMF]
+        for program in PROGRAMS:
+            ample = answer(program, words, DOT)
+            first, second = ample.out.splitlines()
+            lost = [json.dumps(dict.fromkeys(json.loads(line)) | {"error": "OutOfMemory", "file": json.loads(line)["file"]}, separators=(",", ":")) for line in (first, second)]
+            texts = [b"", b"%s\n%s\n" % (lost[0].encode(), second), b"%s\n%s\n" % (first, lost[1].encode())]
+            met = {answered for _, answered in self.under_refusals(program, words, DOT)}
+            self.assertEqual(met, {ample, *(Answer(4, text, OUT_OF_MEMORY.err) for text in texts)})
 
     def test_the_program_answers_in_full_where_nothing_is_refused(self):
         for program in PROGRAMS:

@@ -14,7 +14,7 @@ from built import DOT, DOT_IMAGE, PROGRAMS, ROOT, Answer, answer
 
 sys.path.insert(0, str(ROOT / "packaging"))
 
-from make_manual import commands, stale  # noqa: E402
+from make_manual import commands, long_options, stale  # noqa: E402
 
 LAUNCHER = ROOT / "metaplay"
 
@@ -30,6 +30,7 @@ INSTALLED = {
     "lib/libmetaplay.so": False,
     "lib/libmetaplay.so.1": False,
     "lib/pkgconfig/metaplay.pc": False,
+    **dict.fromkeys((f"share/doc/metaplay/{name}.md" for name in ("FAULTS", "FORMATS", "PIXELS", "RECIPES")), False),
     **{f"share/metaplay/recipes/{it.name}": os.access(it, os.X_OK) for it in (ROOT / "docs/recipes").iterdir()},
 }
 
@@ -66,14 +67,37 @@ class Installation(unittest.TestCase):
         self.assertEqual(launched("uninstall", str(prefix)), Answer(0, b"", b""))
         self.assertEqual(files_in(prefix), {"bin/other": False})
         self.assertFalse((prefix / "share/metaplay").exists())
+        self.assertFalse((prefix / "share/doc/metaplay").exists())
+        told = f"metaplay: nothing was installed below {prefix}\n"
+        self.assertEqual(launched("uninstall", str(prefix)), Answer(0, b"", told.encode()))
+
+    def test_the_filter_runs_the_installed_program(self):
+        self.assertEqual(launched("install", "/a b", DESTDIR=str(self.folder)), Answer(0, b"", b""))
+        text = (self.folder / "a b/share/metaplay/recipes/metaplaytopnm").read_text()
+        self.assertIn("\nmetaplay=${METAPLAY:-/a b/bin/metaplay}\n", text)
+
+    def test_a_folder_in_place_of_a_file_is_status_3(self):
+        for place in ("bin/metaplay", "lib/libmetaplay.so"):
+            (self.folder / place / "inner").mkdir(parents=True)
+            told = launched("install", str(self.folder))
+            self.assertEqual((told.status, told.out), (3, b""), place)
+            shutil.rmtree(self.folder / place)
+
+    def test_installing_needs_the_tools_that_link(self):
+        folder = self.folder / "tools"
+        folder.mkdir()
+        for name in ("sh", "readlink", "sed", "awk", "find", "sha256sum", "sort", "xargs", "cut", "cat", "head", "mv", "dirname", "rt", "python3", "env"):
+            (folder / name).symlink_to(shutil.which(name))
+        told = launched("install", str(self.folder / "usr"), PATH=str(folder))
+        self.assertEqual(told, Answer(3, b"", b"metaplay: install needs ar, which is not on the PATH\n"))
 
     @unittest.skipUnless(shutil.which("pkg-config"), "pkg-config is not on this machine")
     def test_a_program_is_built_with_the_installed_library(self):
-        prefix, program = self.folder / "usr", self.folder / "show"
+        prefix, program = self.folder / "a b#c", self.folder / "show"
         self.assertEqual(launched("install", str(prefix)), Answer(0, b"", b""))
         settings = {**os.environ, "PKG_CONFIG_PATH": f"{prefix}/lib/pkgconfig", "LD_LIBRARY_PATH": f"{prefix}/lib"}
-        words = f"cc {ROOT}/examples/show.c $(pkg-config --cflags --libs metaplay) -o {program}"
-        subprocess.run(["sh", "-c", words], check=True, env=settings)
+        words = 'eval "cc \\"\\$1\\" $(pkg-config --cflags --libs "metaplay >= 1.0") -o \\"\\$2\\""'
+        subprocess.run(["sh", "-ec", words, "sh", ROOT / "examples/show.c", program], check=True, env=settings)
         ran = subprocess.run([program, ROOT / "samples/dot.wmf", "4", "4"], capture_output=True, check=True, env=settings)
         self.assertEqual(ran.stdout, DOT_IMAGE)
 
@@ -93,8 +117,8 @@ class Installation(unittest.TestCase):
         subprocess.run(made, check=True, env={**os.environ, **maintainer})
         self.assertEqual(package.read_bytes(), first)
         subprocess.run(["dpkg-deb", "-x", package, whole], check=True)
-        compressed = {"share/man/man1/metaplay.1": "share/man/man1/metaplay.1.gz"}
-        wanted = {compressed.get(name, name): is_program for name, is_program in INSTALLED.items()} | {"share/doc/metaplay/changelog.gz": False}
+        moved = {"share/man/man1/metaplay.1": "share/man/man1/metaplay.1.gz", "share/zsh/site-functions/_metaplay": "share/zsh/vendor-completions/_metaplay"}
+        wanted = {moved.get(name, name): is_program for name, is_program in INSTALLED.items()} | {"share/doc/metaplay/changelog.gz": False}
         self.assertEqual(subprocess.run(["dpkg-deb", "-I", package, "triggers"], capture_output=True, check=True).stdout, b"activate-noawait ldconfig\n")
         self.assertEqual(files_in(whole / "usr"), wanted)
         self.assertEqual(answer(whole / "usr/bin/metaplay", ["show", "stdin", "4", "4"], DOT), Answer(0, DOT_IMAGE, b""))
@@ -129,6 +153,21 @@ class Made(unittest.TestCase):
             script = f'. "$1"; shift; COMP_WORDS=(metaplay "$@"); COMP_CWORD={count}; _metaplay; printf "%s\\n" "${{COMPREPLY[@]}}"'
             ran = subprocess.run(["bash", "-c", script, "bash", ROOT / "packaging/metaplay.bash", *words], capture_output=True, text=True, check=True)
             self.assertEqual(ran.stdout.split(), wanted, words)
+
+    @unittest.skipUnless(shutil.which("zsh"), "zsh is not on this machine")
+    def test_zsh_completes_commands_and_options(self):
+        script = f"""
+            _describe() {{ print -rl -- ${{(P)2}} }}
+            _arguments() {{ print -rl -- "$@" }}
+            completed() {{ words=("$@"); CURRENT=$#; . {ROOT}/packaging/_metaplay }}
+            completed metaplay ""
+            for it in {" ".join(it.name for it in commands(PROGRAMS[0]))}; do completed metaplay $it --; done
+        """
+        ran = subprocess.run(["zsh", "-fc", script], capture_output=True, text=True, check=True)
+        wanted = [f"{it.name}:{it.about}" for it in commands(PROGRAMS[0])]
+        for it in commands(PROGRAMS[0]):
+            wanted += [f"--{name}[{about}]{':number' if takes else ''}" for name, about, takes in long_options(it)] + ["*:file:_files"]
+        self.assertEqual((ran.stdout.splitlines(), ran.stderr), (wanted, ""))
 
     def test_the_manual_has_each_command_and_each_fault(self):
         page = (ROOT / "packaging/metaplay.1").read_text(encoding="utf-8")

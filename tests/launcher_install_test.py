@@ -13,7 +13,7 @@ class Installing(Folder):
 
     def setUp(self):
         super().setUp()
-        for name in ("packaging", "include", "docs/recipes"):
+        for name in ("packaging", "include", "docs"):
             shutil.copytree(ROOT / name, self.root / name)
         (self.folder / "c").mkdir()
         for name, path in [("metaplay_none", self.kit / "archive"), ("kit_none", self.folder / "c/liblibc_c.a")]:
@@ -54,7 +54,8 @@ class Installing(Folder):
         self.assertFalse(self.prefix.exists())
 
     def test_nothing_is_built_to_uninstall(self):
-        self.assertEqual((self.call("uninstall", str(self.prefix)), self.calls()), ((0, "", ""), []))
+        told = f"metaplay: nothing was installed below {self.prefix}\n"
+        self.assertEqual((self.call("uninstall", str(self.prefix)), self.calls()), ((0, "", told), []))
 
 
 if __name__ == "__main__":
