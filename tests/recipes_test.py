@@ -190,7 +190,12 @@ class Recipes(unittest.TestCase):
         status, _, err = self.run_words(*git, "commit", "-q", "-m", "four", METAPLAY="no-program")
         self.assertEqual((status != 0, b"pre-commit: no-program is missing\n" in err), (True, True), err)
         self.assertEqual(self.run_words(*git, "commit", "-q", "-m", "five")[0], 0)
-        self.assertEqual(self.run_words(RECIPES / "pre-commit", "dot.wmf")[0], 0)
+        # What is committed of a link is no metafile.
+        (self.folder / "link.wmf").symlink_to("dot.wmf")
+        self.run_words(*git, "add", "link.wmf")
+        status, _, err = self.run_words(*git, "commit", "-q", "-m", "six")
+        self.assertEqual((status, err), (0, b""))
+        self.assertEqual(self.run_words(RECIPES / "pre-commit", "dot.wmf", "link.wmf")[0], 0)
         self.assertEqual(self.run_words(RECIPES / "pre-commit", "dot.wmf", "held file.wmf", "dot.wmf")[0], 1)
 
 
