@@ -38,6 +38,13 @@ take_prefix() {
             exit 2
             ;;
     esac
+    case $1 in
+        *[\"\'\$\`\\\&\|\}]* | *"
+"*)
+            say "PREFIX can't have a quote, a line feed, or one of \$ \` \\ & | } in it, since installed files name it"
+            exit 2
+            ;;
+    esac
 }
 
 install_one() {

@@ -96,25 +96,38 @@ def functions(crate, sources, path):
     return found
 
 
+ATTRIBUTES = re.compile(r"(?m)(?:^ *(?:#\[.*|///.*)\n)*\Z")
+
+TACTIC = re.compile(r"(?m)^ *#\[tactic\(.*\)\]\n")
+
+
+def attributes_before(text, function):
+    """The lines of attributes and comments above a function."""
+    return ATTRIBUTES.search(text[: function.start])[0]
+
+
 def can_stay_unproved(text, function):
-    """Whether the prover can be told to leave a function's goals: not of a trait's functions, most of which have no body, nor of one that has an
-    attribute about its proof."""
+    """Whether the prover can be told to leave a function's goals: not of a trait's functions, most of which have no body."""
     traits = [it for it in BLOCK.finditer(text) if it["kind"] == "trait"]
-    if any(it.start() <= function.start < end_of(text, it.end(), "") for it in traits):
-        return False
-    attributes = re.search(r"(?m)(?:^ *(?:#\[.*|///.*)\n)*\Z", text[: function.start])[0]
-    return "#[tactic(" not in attributes
+    return not any(it.start() <= function.start < end_of(text, it.end(), "") for it in traits)
 
 
 def without_body(text, function, indent):
-    """A function's text with a body that is never reached. A `const fn` keeps its own, since the compiler may
-    run it, and so does one of a cycle, since it has to be in one."""
+    """A function's text with a body that is never reached. A `const fn` keeps its own, since the compiler may run it, and so does one of a cycle, since
+    it has to be in one."""
     whole = text[function.start : function.end]
-    attributes = re.search(r"(?m)(?:^ *(?:#\[.*|///.*)\n)*\Z", text[: function.start])[0]
     begin = re.search(rf"(?m)^{indent}\{{$|(?<= )\{{$", whole)
-    if "const fn" in whole.split("(")[0] or "#[cycle(" in attributes or not begin:
+    if "const fn" in whole.split("(")[0] or "#[cycle(" in attributes_before(text, function) or not begin:
         return whole
     return f"{whole[: begin.end()]}\n{indent}    unreachable!()\n{indent}}}"
+
+
+def left_unproved(text, function):
+    """The text with a function whose goals the prover leaves, in place of one with an attribute of its own about its proof."""
+    indent = re.match(" *", text[function.start :])[0]
+    attributes = attributes_before(text, function)
+    before = text[: function.start].removesuffix(attributes) + TACTIC.sub("", attributes)
+    return f"{before}{indent}#[tactic(none)]\n{without_body(text, function, indent)}{text[function.end :]}"
 
 
 def unproved(crate, sources, asked):
@@ -124,8 +137,7 @@ def unproved(crate, sources, asked):
     for path, text in sources.items():
         left = [it for it in functions(crate, sources, path) if it.name not in asked and can_stay_unproved(text, it)]
         for it in reversed(left):
-            indent = re.match(" *", text[it.start :])[0]
-            texts[path] = f"{texts[path][: it.start]}{indent}#[tactic(none)]\n{without_body(text, it, indent)}{texts[path][it.end :]}"
+            texts[path] = left_unproved(texts[path], it)
         others |= {it.name for it in left}
     return texts, others
 

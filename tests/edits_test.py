@@ -157,12 +157,12 @@ class Unproved(unittest.TestCase):
         texts, _ = unproved("shapes", {"src/lib.rt": text}, [])
         self.assertEqual(texts, {"src/lib.rt": f"#[tactic(none)]\n{text[: text.index('    match')]}    unreachable!()\n}}\n"})
 
-    def test_a_function_with_such_an_attribute_stays(self):
-        """The prover takes no second attribute about a function's proof; others may stand before the function."""
+    def test_an_attribute_about_the_proof_is_replaced(self):
+        """The prover takes no second one. Others may stand before the function."""
         text = "/// One.\n#[tactic(using(one))]\n#[inline]\npub fn one() {}\n\n/// Two.\n#[inline]\nfn two() {}\n"
         texts, others = unproved("shapes", {"src/lib.rt": text}, [])
-        self.assertEqual(texts, {"src/lib.rt": text.replace("fn two", "#[tactic(none)]\nfn two")})
-        self.assertEqual(others, {"shapes::two"})
+        left = text.replace("#[tactic(using(one))]\n", "").replace("pub fn one", "#[tactic(none)]\npub fn one").replace("fn two", "#[tactic(none)]\nfn two")
+        self.assertEqual((texts, others), ({"src/lib.rt": left}, {"shapes::one", "shapes::two"}))
 
 
 class Verdicts(unittest.TestCase):

@@ -132,6 +132,9 @@ class Installation(unittest.TestCase):
         for words in ([], [""], ["usr"], [str(self.folder), "more"]):
             for name in ("install", "uninstall"):
                 self.assertEqual(launched(name, *words), Answer(2, b"", usage), (name, words))
+        told = b"metaplay: PREFIX can't have a quote, a line feed, or one of $ ` \\ & | } in it, since installed files name it\n"
+        for sign in "\"'\n$`\\&|}":
+            self.assertEqual(launched("install", f"{self.folder}/a{sign}b"), Answer(2, b"", told), sign)
         self.assertEqual(files_in(self.folder), {})
 
     def test_a_folder_that_cannot_be_written_is_status_3(self):
