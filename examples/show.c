@@ -99,7 +99,7 @@ static uint32_t read_side(const char *text)
     char *end;
     unsigned long side = strtoul(text, &end, 10);
 
-    if (*text == '\0' || *end != '\0' || side < 1 || side > METAPLAY_MOST_SIDE)
+    if (*text < '0' || *text > '9' || *end != '\0' || side < 1 || side > METAPLAY_MOST_SIDE)
         fail(2, "a side is a number from 1 to 8192");
     return (uint32_t)side;
 }

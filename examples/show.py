@@ -4,7 +4,7 @@
     show.py LIBRARY FILE WIDTH HEIGHT
 
 The image has the largest sides within the width and the height that are in the proportion of the file's frame. The exit
-status is 1 if the file is rejected, and standard error has the fault.
+status is 1 if the file is rejected, 2 for wrong usage, 3 if an input or the output fails, and 4 if memory runs out.
 """
 
 import ctypes
@@ -108,28 +108,39 @@ class Metaplay:
         return answer.length
 
 
+def fail(status, reason):
+    """Ends the program with a line on standard error."""
+    print(f"show.py: {reason}", file=sys.stderr)
+    sys.exit(status)
+
+
 def side(word):
     """A width or a height. The library takes numbers of 32 bits, to which ctypes would cut a larger one."""
     if not (word.isascii() and word.isdigit() and 1 <= int(word) <= MOST_SIDE):
-        sys.exit(f"show.py: a side is a number from 1 to {MOST_SIDE}")
+        fail(2, f"a side is a number from 1 to {MOST_SIDE}")
     return int(word)
 
 
 def main(library, name, width, height):
     """Writes the image of a file."""
     width, height = side(width), side(height)
-    metaplay = Metaplay(library)
-    with open(name, "rb") as source:
-        file = source.read()
     try:
+        metaplay = Metaplay(library)
+        with open(name, "rb") as source:
+            file = source.read()
         width, height = metaplay.fitted_sides(file, width, height)
         image = metaplay.play(file, metaplay.prepare(file, width, height), width, height)
+        sys.stdout.buffer.write(b"P6\n%d %d\n255\n" % (width, height) + image)
+        sys.stdout.buffer.flush()
     except Rejected as fault:
-        sys.exit(f"show.py: {fault}")
-    sys.stdout.buffer.write(b"P6\n%d %d\n255\n" % (width, height) + image)
+        fail(1, fault)
+    except OSError as failure:
+        fail(3, failure)
+    except MemoryError:
+        fail(4, "out of memory")
 
 
 if __name__ == "__main__":
     if len(sys.argv) != 5:
-        sys.exit(__doc__)
+        fail(2, "usage: show.py LIBRARY FILE WIDTH HEIGHT")
     main(*sys.argv[1:])

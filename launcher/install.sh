@@ -20,7 +20,7 @@ each_file() {
         [ "$recipe" = "$filter" ] || "$1" "$mode" "$recipe" "share/metaplay/recipes/${recipe##*/}"
     done
     "$1" 755 "$linked/metaplaytopnm" share/metaplay/recipes/metaplaytopnm
-    for page in RECIPES FAULTS FORMATS PIXELS; do
+    for page in RECIPES FAULTS FORMATS; do
         "$1" 644 "$root/docs/$page.md" "share/doc/metaplay/$page.md"
     done
     "$1" 644 "$root/include/metaplay.h" include/metaplay.h
@@ -51,14 +51,24 @@ install_one() {
     install -D -T -m "$1" -- "$2" "$place/$3" || exit 3
 }
 
+# Whether no folder is where a file would be installed.
+is_free() {
+    if [ -d "$place/$3" ] && [ ! -L "$place/$3" ]; then
+        say "$place/$3 is a folder"
+        exit 3
+    fi
+}
+
 remove_one() {
-    if [ -e "$place/$3" ]; then found=1; fi
-    rm -f -- "$place/$3" || exit 3
+    if [ -e "$place/$3" ] || [ -L "$place/$3" ]; then found=1; fi
+    rm -f -- "$place/$3" || status=3
 }
 
 # Whether the commands are there that linking the library takes.
 can_link() {
-    for command in rt ar "${CC:-cc}"; do
+    # CC may have options after the command.
+    # shellcheck disable=SC2086
+    for command in rt ar $(printf '%s\n' ${CC:-cc} | head -n 1); do
         if ! command -v "$command" >/dev/null; then
             say "install needs $command, which is not on the PATH"
             return 1
@@ -78,9 +88,12 @@ take_folder() {
 # The program and the library are built first, so that nothing is installed if one of them can't be.
 install_all() {
     take_prefix "$@"
+    linked=
     can_link && have_built || exit 3
     choose_library
     have_built || exit 3
+    each_file is_free
+    is_free link - lib/libmetaplay.so
     take_folder
     link_library "$linked" "$prefix" "$built" || exit 3
     sed "s|/usr/local/bin/metaplay|$prefix/bin/metaplay|" "$filter" >"$linked/metaplaytopnm" || exit 3
@@ -93,9 +106,10 @@ uninstall_all() {
     take_prefix "$@"
     linked=
     found=
+    status=0
     each_file remove_one
-    rm -f -- "$place/lib/libmetaplay.so" || exit 3
+    [ "$(readlink -- "$place/lib/libmetaplay.so")" != "libmetaplay.so.$interface" ] || remove_one link - lib/libmetaplay.so
     rmdir -- "$place/share/metaplay/recipes" "$place/share/metaplay" "$place/share/doc/metaplay" 2>/dev/null
     [ -n "$found" ] || say "nothing was installed below $place"
-    return 0
+    return "$status"
 }

@@ -30,7 +30,7 @@ INSTALLED = {
     "lib/libmetaplay.so": False,
     "lib/libmetaplay.so.1": False,
     "lib/pkgconfig/metaplay.pc": False,
-    **dict.fromkeys((f"share/doc/metaplay/{name}.md" for name in ("FAULTS", "FORMATS", "PIXELS", "RECIPES")), False),
+    **dict.fromkeys((f"share/doc/metaplay/{name}.md" for name in ("FAULTS", "FORMATS", "RECIPES")), False),
     **{f"share/metaplay/recipes/{it.name}": os.access(it, os.X_OK) for it in (ROOT / "docs/recipes").iterdir()},
 }
 
@@ -79,9 +79,31 @@ class Installation(unittest.TestCase):
     def test_a_folder_in_place_of_a_file_is_status_3(self):
         for place in ("bin/metaplay", "lib/libmetaplay.so"):
             (self.folder / place / "inner").mkdir(parents=True)
-            told = launched("install", str(self.folder))
-            self.assertEqual((told.status, told.out), (3, b""), place)
+            told = f"metaplay: {self.folder}/{place} is a folder\n"
+            self.assertEqual(launched("install", str(self.folder)), Answer(3, b"", told.encode()))
+            self.assertEqual(files_in(self.folder), {})
             shutil.rmtree(self.folder / place)
+
+    def test_what_is_not_ours_stays(self):
+        self.assertEqual(launched("install", str(self.folder)), Answer(0, b"", b""))
+        link, program = self.folder / "lib/libmetaplay.so", self.folder / "bin/metaplay"
+        for path in (link, program):
+            path.unlink()
+        link.write_text("another")
+        (program / "inner").mkdir(parents=True)
+        told = launched("uninstall", str(self.folder))
+        self.assertEqual((told.status, told.out), (3, b""))
+        self.assertEqual(files_in(self.folder), {"lib/libmetaplay.so": False})
+
+    def test_a_compiler_may_have_options(self):
+        self.assertEqual(launched("install", str(self.folder), CC="cc -O2"), Answer(0, b"", b""))
+        told = b"metaplay: install needs no-compiler, which is not on the PATH\n"
+        self.assertEqual(launched("install", str(self.folder), CC="no-compiler -O2"), Answer(3, b"", told))
+
+    def test_a_package_has_one_name(self):
+        for words in ([], ["--help"], ["a.deb", "b.deb"]):
+            ran = subprocess.run([ROOT / "packaging/make_deb", *words], cwd=self.folder, capture_output=True, check=False)
+            self.assertEqual((ran.returncode, ran.stdout, ran.stderr), (2, b"", b"usage: make_deb FILE\n"))
 
     def test_installing_needs_the_tools_that_link(self):
         folder = self.folder / "tools"

@@ -196,6 +196,13 @@ class Recipes(unittest.TestCase):
         status, _, err = self.run_words(*git, "commit", "-q", "-m", "six")
         self.assertEqual((status, err), (0, b""))
         self.assertEqual(self.run_words(RECIPES / "pre-commit", "dot.wmf", "link.wmf")[0], 0)
+        # A file that takes a link's place is looked at, however git is called.
+        (self.folder / "link.wmf").unlink()
+        (self.folder / "link.wmf").write_bytes(HELD.read_bytes())
+        self.run_words(*git, "add", "link.wmf")
+        for word in ("--literal-pathspecs", "--glob-pathspecs", "--no-pager"):
+            status, _, err = self.run_words(*git, word, "commit", "-q", "-m", "seven")
+            self.assertEqual((status != 0, b"pre-commit: rejected: link.wmf\n" in err), (True, True), err)
         self.assertEqual(self.run_words(RECIPES / "pre-commit", "dot.wmf", "held file.wmf", "dot.wmf")[0], 1)
 
 
