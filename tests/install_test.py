@@ -184,12 +184,13 @@ class Made(unittest.TestCase):
         script = f"""
             _describe() {{ print -rl -- ${{(P)2}} }}
             _arguments() {{ print -rl -- "$@" }}
+            compadd() {{ print -rl -- "${{@:2}}" }}
             completed() {{ words=("$@"); CURRENT=$#; . {ROOT}/packaging/_metaplay }}
             completed metaplay ""
             for it in {" ".join(it.name for it in commands(PROGRAMS[0]))}; do completed metaplay $it --; done
         """
         ran = subprocess.run(["zsh", "-fc", script], capture_output=True, text=True, check=True)
-        wanted = [f"{it.name}:{it.about}" for it in commands(PROGRAMS[0])]
+        wanted = [f"{it.name}:{it.about}" for it in commands(PROGRAMS[0])] + ["help", "--help", "--version"]
         for it in commands(PROGRAMS[0]):
             wanted += [f"--{name}[{about}]{':number' if takes else ''}" for name, about, takes in long_options(it)] + ["*:file:_files"]
         self.assertEqual((ran.stdout.splitlines(), ran.stderr), (wanted, ""))
