@@ -116,9 +116,10 @@ def fail(status, reason):
 
 def side(word):
     """A width or a height. The library takes numbers of 32 bits, to which ctypes would cut a larger one."""
-    if not (word.isascii() and word.isdigit() and 1 <= int(word) <= MOST_SIDE):
+    digits = word.lstrip("0")
+    if not (word.isascii() and word.isdigit() and 1 <= len(digits) <= len(str(MOST_SIDE)) and int(digits) <= MOST_SIDE):
         fail(2, f"a side is a number from 1 to {MOST_SIDE}")
-    return int(word)
+    return int(digits)
 
 
 def main(library, name, width, height):
@@ -134,7 +135,8 @@ def main(library, name, width, height):
         sys.stdout.buffer.flush()
     except Rejected as fault:
         fail(1, fault)
-    except OSError as failure:
+    except (OSError, AttributeError) as failure:
+        # An AttributeError names a function that the library lacks.
         fail(3, failure)
     except MemoryError:
         fail(4, "out of memory")

@@ -96,8 +96,9 @@ metaplay_answer metaplay_prepare(const uint8_t *file, size_t file_length, uint32
  * proportion. The file is played in bands, so beside `out` there is no second image in memory.
  *
  * The first of these decides: the width or the height isn't from 1 to 8,192 (fault 8, BadBound); `metaplay_check`
- * rejects the pair; the surface exceeds the certificate's bound (fault 42, SurfaceTooLarge); `out` is too short; an
- * allocation fails.
+ * rejects the pair; the surface exceeds the certificate's bound (fault 42, SurfaceTooLarge); `out` is too short. The
+ * check and the play both allocate memory, and an allocation that fails ends the call at once
+ * (METAPLAY_OUT_OF_MEMORY).
  */
 metaplay_answer metaplay_play(const uint8_t *file, size_t file_length, const uint8_t *certificate,
                               size_t certificate_length, uint32_t width, uint32_t height, uint8_t *out,

@@ -20,8 +20,8 @@ each_file() {
         [ "$recipe" = "$filter" ] || "$1" "$mode" "$recipe" "share/metaplay/recipes/${recipe##*/}"
     done
     "$1" 755 "$linked/metaplaytopnm" share/metaplay/recipes/metaplaytopnm
-    for page in RECIPES FAULTS FORMATS; do
-        "$1" 644 "$root/docs/$page.md" "share/doc/metaplay/$page.md"
+    for page in RECIPES.md FAULTS.md FORMATS.md PIXELS.md info.schema.json; do
+        "$1" 644 "$root/docs/$page" "share/doc/metaplay/$page"
     done
     "$1" 644 "$root/include/metaplay.h" include/metaplay.h
     "$1" 644 "$linked/libmetaplay.a" lib/libmetaplay.a
@@ -31,10 +31,12 @@ each_file() {
 
 # Keeps the prefix that is given, and the same below DESTDIR.
 take_prefix() {
-    case $#${1-} in
-        1/*) prefix=${1%/} place=${DESTDIR-}${1%/} ;;
+    prefix=${1-}
+    while [ "$prefix" != "${prefix%/}" ]; do prefix=${prefix%/}; done
+    case $#$prefix in
+        1/*) place=${DESTDIR-}$prefix ;;
         *)
-            say "usage: metaplay install PREFIX, or metaplay uninstall PREFIX; PREFIX is an absolute path"
+            say "usage: metaplay install PREFIX, or metaplay uninstall PREFIX; PREFIX is an absolute path, but not /"
             exit 2
             ;;
     esac

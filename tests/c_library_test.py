@@ -116,6 +116,15 @@ class Examples(unittest.TestCase):
                 _, sides = fitted((SAMPLES / name).read_bytes(), *SIDES)
                 self.assertEqual(told, shown(name, *sides))
 
+    def test_the_python_example_rejects_wrong_words(self):
+        path, words = str(folder() / "lib/libmetaplay.so"), [sys.executable, "-B", EXAMPLES / "show.py"]
+        usage = Answer(2, b"", b"metaplay: a side is a number from 1 to 8192\n")
+        for side in ("", "0", "000", "8193", "1" * 5000, "\u00b2", "-1", "4.0"):
+            self.assertEqual(ran([*words, path, SAMPLES / HELD_OBJECT, side, 4]), usage, side[:9])
+        self.assertEqual(ran([*words, path, SAMPLES / HELD_OBJECT, "0004", "08"]), Answer(1, b"", b"metaplay: HeldObject at record 5\n"))
+        told = ran([*words, "libc.so.6", SAMPLES / HELD_OBJECT, 4, 4])
+        self.assertEqual((told.status, told.out, told.err[:10]), (3, b"", b"metaplay: "))
+
 
 class Headers(unittest.TestCase):
     """The header and the shared library."""

@@ -3,6 +3,7 @@ program's help says."""
 
 import os
 import pathlib
+import re
 import shutil
 import subprocess
 import sys
@@ -30,7 +31,7 @@ INSTALLED = {
     "lib/libmetaplay.so": False,
     "lib/libmetaplay.so.1": False,
     "lib/pkgconfig/metaplay.pc": False,
-    **dict.fromkeys((f"share/doc/metaplay/{name}.md" for name in ("FAULTS", "FORMATS", "RECIPES")), False),
+    **dict.fromkeys((f"share/doc/metaplay/{name}" for name in ("FAULTS.md", "FORMATS.md", "PIXELS.md", "RECIPES.md", "info.schema.json")), False),
     **{f"share/metaplay/recipes/{it.name}": os.access(it, os.X_OK) for it in (ROOT / "docs/recipes").iterdir()},
 }
 
@@ -70,6 +71,12 @@ class Installation(unittest.TestCase):
         self.assertFalse((prefix / "share/doc/metaplay").exists())
         told = f"metaplay: nothing was installed below {prefix}\n"
         self.assertEqual(launched("uninstall", str(prefix)), Answer(0, b"", told.encode()))
+
+    def test_a_link_of_an_installed_page_leads_to_another_one(self):
+        self.assertEqual(launched("install", str(self.folder)), Answer(0, b"", b""))
+        pages = self.folder / "share/doc/metaplay"
+        links = {name for page in pages.glob("*.md") for name in re.findall(r"\]\(([^)#]+)", page.read_text("utf-8"))}
+        self.assertEqual(sorted(links - {it.name for it in pages.iterdir()}), [])
 
     def test_the_filter_runs_the_installed_program(self):
         self.assertEqual(launched("install", "/a b", DESTDIR=str(self.folder)), Answer(0, b"", b""))
@@ -150,10 +157,10 @@ class Installation(unittest.TestCase):
             self.assertEqual([line for line in told.splitlines() if line.startswith("E:")], ["E: metaplay: no-copyright-file"])
 
     def test_wrong_words_install_nothing(self):
-        usage = b"metaplay: usage: metaplay install PREFIX, or metaplay uninstall PREFIX; PREFIX is an absolute path\n"
-        for words in ([], [""], ["usr"], [str(self.folder), "more"]):
+        usage = b"metaplay: usage: metaplay install PREFIX, or metaplay uninstall PREFIX; PREFIX is an absolute path, but not /\n"
+        for words in ([], [""], ["/"], ["//"], ["usr"], [str(self.folder), "more"]):
             for name in ("install", "uninstall"):
-                self.assertEqual(launched(name, *words), Answer(2, b"", usage), (name, words))
+                self.assertEqual(launched(name, *words, DESTDIR=str(self.folder)), Answer(2, b"", usage), (name, words))
         told = b"metaplay: PREFIX can't have a quote, a line feed, or one of $ ` \\ & | } in it, since installed files name it\n"
         for sign in "\"'\n$`\\&|}":
             self.assertEqual(launched("install", f"{self.folder}/a{sign}b"), Answer(2, b"", told), sign)

@@ -19,6 +19,21 @@ SAME_FILE = Answer(2, b"", b"metaplay: OUT is FILE\n")
 
 OLD = b"as it was"
 
+# A function in place of the C library's fchmod(2), which says the old mode and the new one.
+SAYS_MODE = b"""
+#include <stdio.h>
+#include <sys/stat.h>
+#include <sys/syscall.h>
+#include <unistd.h>
+int fchmod(int file, mode_t mode)
+{
+    struct stat now;
+    fstat(file, &now);
+    dprintf(2, "%o becomes %o\\n", now.st_mode & 07777, mode);
+    return syscall(SYS_fchmod, file, mode);
+}
+"""
+
 # So many bytes a run may write into a file, where that is limited.
 FEW = 1000
 
@@ -65,6 +80,24 @@ class PreparedFile(unittest.TestCase):
             self.out.chmod(mode)
             self.assertEqual(self.prepare(program, self.out), DONE)
             self.assertEqual((self.out.stat().st_mode & 0o7777, self.out.read_bytes()), (mode, DOT_CERT))
+
+    @for_each_program
+    def test_a_new_file_does_not_run_as_its_owner(self, program):
+        for mode in [0o4777, 0o2755, 0o1644, 0o6711]:
+            self.out.write_bytes(OLD)
+            self.out.chmod(mode)
+            self.assertEqual(self.prepare(program, self.out), DONE)
+            self.assertEqual(self.out.stat().st_mode & 0o7777, mode & 0o777)
+
+    @for_each_program
+    def test_nobody_else_can_open_a_new_file_before_it_has_its_mode(self, program):
+        library = self.folder / "says_mode.so"
+        subprocess.run(["cc", "-shared", "-fPIC", "-o", library, "-x", "c", "-"], input=SAYS_MODE, check=True)
+        self.out.write_bytes(OLD)
+        self.out.chmod(0o640)
+        said = self.prepare(program, self.out, env={**os.environ, "LD_PRELOAD": str(library)}, preexec_fn=lambda: os.umask(0))
+        self.assertEqual(said, Answer(0, b"", b"600 becomes 640\n"))
+        self.assertEqual(self.out.stat().st_mode & 0o7777, 0o640)
 
     @for_each_program
     def test_names_in_the_folder_that_is_current(self, program):

@@ -102,6 +102,9 @@ class Recipes(unittest.TestCase):
         # The picture is square, so it has only four of these eight columns.
         self.assertEqual(self.run_words(RECIPES / "to-png", "dot.wmf", "8", "4"), (0, out, b""))
         self.assertEqual(self.run_words(RECIPES / "to-png", "held file.wmf", "4", "4"), (1, b"", HELD_LINE))
+        self.assertEqual(self.run_words(RECIPES / "to-png", "dot.wmf", "4"), (2, b"", b"usage: to-png FILE W H\n"))
+        status, out, _ = self.run_words(RECIPES / "to-png", "dot.wmf", "4", "4", TMPDIR="/no folder")
+        self.assertEqual((status, out), (3, b""))
 
     @unittest.skipUnless(image_magick(), "ImageMagick is not on this machine")
     def test_the_delegate_of_image_magick(self):
@@ -123,6 +126,8 @@ class Recipes(unittest.TestCase):
         self.assertEqual(self.run_words(*sized, given=DOT, **settings), (0, DOT_IMAGE, b""))
         self.assertEqual(self.run_words(*job, "held file.wmf", **settings), (1, b"", b"ERROR: " + HELD_LINE))
         self.assertEqual(self.run_words(*job, "dot.wmf", METAPLAY="/no/program"), (1, b"", b"ERROR: /no/program is missing\n"))
+        status, out, err = self.run_words(*job, "dot.wmf", TMPDIR="/no folder", **settings)
+        self.assertEqual((status, out, err[:7]), (1, b"", b"ERROR: "))
         status, out, _ = self.run_words(*job, "dot.wmf", **settings)
         self.assertEqual((status, out[:17]), (0, b"P6\n2400 2400\n255\n"))
 
@@ -159,6 +164,29 @@ class Recipes(unittest.TestCase):
         report = json.loads(out)
         self.assertEqual((status, report["accepted"], report["file"]), (1, False, "held file.wmf"))
         self.assertIn("fault", report)
+
+    @needs("jq")
+    def test_without_a_report_a_file_is_not_accepted(self):
+        words = [RECIPES / "check-file", "64", "64", "dot.wmf"]
+        self.assertEqual(self.run_words(*words)[0], 0)
+        # A full disk, no jq, and a program that says nothing.
+        with open("/dev/full", "wb") as full:
+            ended = subprocess.run(words, stdout=full, stderr=subprocess.DEVNULL, cwd=self.folder, env=self.settings, timeout=120, check=False)
+        self.assertEqual(ended.returncode, 1)
+        tools = self.folder / "tools"
+        tools.mkdir()
+        for name in ("sh", "metaplay"):
+            (tools / name).symlink_to(shutil.which(name, path=self.settings["PATH"]))
+        self.assertEqual(self.run_words(*words, PATH=str(tools)), (1, b"", b"check-file: jq is missing\n"))
+        status, out, _ = self.run_words(*words, METAPLAY="true")
+        self.assertEqual((status, json.loads(out)["said"]), (1, "metaplay check wrote no report"))
+        # A certificate that isn't a plain file is neither read nor written.
+        for make in (os.mkfifo, lambda path: path.symlink_to(self.folder / "elsewhere")):
+            (self.folder / "dot.wmf.mpc").unlink()
+            make(self.folder / "dot.wmf.mpc")
+            status, out, _ = self.run_words(*words)
+            self.assertEqual((status, json.loads(out)["said"]), (1, "dot.wmf.mpc is no plain file"))
+        self.assertFalse((self.folder / "elsewhere").exists())
 
     def test_faults_have_their_codes(self):
         told = (RECIPES / "check-file").read_text("utf-8").split("faults='")[1].split("'")[0].split()

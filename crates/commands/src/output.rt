@@ -2,8 +2,9 @@
 
 use itoa::Buffer;
 use std::alloc::AllocError;
-use std::fs::{self, OpenOptions, Permissions};
+use std::fs::{self, OpenFile, OpenOptions, Permissions};
 use std::io::{self, ErrorKind, Write};
+use std::os::unix::fs::{OpenOptionsExt, PermissionsExt};
 use std::path::Path;
 use std::rt::Files;
 
@@ -12,6 +13,16 @@ const MOST_NAMES: u32 = 10_000;
 
 /// The most digits of the number in a name.
 const DIGITS: usize = 10;
+
+/// The mode of a file that has no old one, before the umask.
+const NEW_MODE: u32 = 0o666;
+
+/// The mode of a new file until it gets the old one's: no other user can open it earlier.
+const CLOSED_MODE: u32 = 0o600;
+
+/// What a new file may have of an old one's mode. It belongs to whoever runs the program, so it may not run as its owner
+/// or its group, as the old one perhaps does.
+const ACCESS: u32 = 0o777;
 
 /// A file that is written beside the named one, and gets its name when it is flushed. Until then, a file of that name
 /// is unchanged. What isn't a plain file (a link, a device or a FIFO) is written in place.
@@ -32,7 +43,8 @@ pub(crate) struct NamedOutput<'a, R: Files + AllocGlobal> {
 #[derive(Drop)]
 enum Named {
     Nothing,
-    PlainFile(Permissions),
+    /// A plain file with this mode.
+    PlainFile(u32),
     Other,
 }
 
@@ -67,15 +79,20 @@ impl<'a, R: Files + AllocGlobal> NamedOutput<'a, R> {
         }
     }
 
-    /// Opens what is written. A plain file that isn't writable stays as it is, and a new file gets the mode of an old
-    /// one.
+    /// Opens what is written. A plain file that isn't writable stays as it is. A new file gets the access that an old
+    /// one allows, by its handle, since its path may lead elsewhere by now.
     fn open(&mut self) -> io::Result<()> {
         match what_has_name(self.rt, self.name)? {
-            Named::Nothing => self.create_beside(),
-            Named::PlainFile(permissions) => {
+            Named::Nothing => {
+                self.file = Some(self.create_beside(NEW_MODE)?);
+                Ok(())
+            }
+            Named::PlainFile(mode) => {
                 OpenOptions::new().write(true).open(self.rt, self.name)?;
-                self.create_beside()?;
-                fs::set_permissions(self.rt, self.path.as_str(), permissions)
+                let file = self.create_beside(CLOSED_MODE)?;
+                file.set_permissions(Permissions::from_mode(mode & ACCESS))?;
+                self.file = Some(file);
+                Ok(())
             }
             Named::Other => {
                 self.file = Some(fs::create(self.rt, self.name)?);
@@ -84,17 +101,16 @@ impl<'a, R: Files + AllocGlobal> NamedOutput<'a, R> {
         }
     }
 
-    /// Creates a new file in the same folder, under the first free name.
-    fn create_beside(&mut self) -> io::Result<()> {
+    /// Creates a new file with this mode in the same folder, under the first free name.
+    fn create_beside(&mut self, mode: u32) -> io::Result<R::File> {
         let mut options = OpenOptions::new();
-        options.write(true).create_new(true);
+        options.write(true).create_new(true).mode(mode);
         for number in 0..MOST_NAMES {
             self.set_path(number)?;
             match options.open(self.rt, self.path.as_str()) {
                 Ok(file) => {
-                    self.file = Some(file);
                     self.is_unnamed = true;
-                    return Ok(());
+                    return Ok(file);
                 }
                 Err(error) if error.kind() == ErrorKind::AlreadyExists => {}
                 Err(error) => return Err(error),
@@ -122,7 +138,9 @@ fn prefix_beside<R: AllocGlobal>(rt: &R, name: &str) -> Result<String, AllocErro
 /// What has this name. A link isn't followed.
 fn what_has_name<R: Files>(rt: &R, name: &str) -> io::Result<Named> {
     match fs::symlink_metadata(rt, name) {
-        Ok(metadata) if metadata.is_file() => Ok(Named::PlainFile(metadata.permissions())),
+        Ok(metadata) if metadata.is_file() => {
+            Ok(Named::PlainFile(metadata.permissions().mode()))
+        }
         Ok(_) => Ok(Named::Other),
         Err(error) if error.kind() == ErrorKind::NotFound => Ok(Named::Nothing),
         Err(error) => Err(error),

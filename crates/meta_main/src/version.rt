@@ -2,4 +2,4 @@
 
 /// The line that `--version` writes: the version, and the checksum of all sources but this one.
 pub(crate) const VERSION: &str =
-    "metaplay 1.0.0 (sources b2bcd6d3aa8bc79689ef305d074bea542bb7a10057417f37ca16c9868451b351)\n";
+    "metaplay 1.0.0 (sources 2d64cde14e5257812b22cd0d18aa49f770c3b24ba11db6d86eba9d7888ddb6e4)\n";
