@@ -7,7 +7,7 @@ ghost use Rattle.span_fill.specs.Spans.{AreApart};
 ghost use Rattle.painting.specs.RowsPainted.{PaintsSpans};
 
 use crate::fill_style::FillStyle;
-use crate::row_op::RowOp;
+use crate::row_op::{PERIOD, RowOp};
 use crate::row_op_scratch::RowOpScratch;
 use crate::strips::put_spans;
 use canvas::Canvas;
@@ -19,6 +19,8 @@ use span_fill::Span;
 pub(crate) enum RowOps<'p, 'd, 'a> {
     /// The same for all rows. It isn't copied for each row.
     Same(RowOp<'static>),
+    /// Eight for a hatch, which repeat by row.
+    Repeated(&'p [RowOp<'static>; PERIOD]),
     /// One for each row, computed from a fill style.
     EachRow(&'p FillStyle<'d, 'a>),
 }
@@ -56,6 +58,9 @@ impl<'p, 'd, 'a> RowPainter<'p, 'd, 'a> {
         let cuts = self.clip.cut_boxes();
         match &self.row_ops {
             RowOps::Same(row_op) => put_spans(canvas, row_op, y, spans, cuts),
+            RowOps::Repeated(row_ops) => {
+                put_spans(canvas, &row_ops[y as usize % PERIOD], y, spans, cuts);
+            }
             RowOps::EachRow(paint) => {
                 let row_op = paint.new_row(y, self.columns, &*scratch.sources, &mut scratch.mixes);
                 put_spans(canvas, &row_op, y, spans, cuts);

@@ -1,0 +1,21 @@
+-- The inside of lines that a row buffer fills.
+use Rattle.std.specs.Prelude.{ℕ, Bool, false, ◌&&◌, List}
+use Rattle.mapping.specs.Mixes.{mixed_by}
+use Rattle.mapping.specs.declared.mix.Mix.{Mix}
+use Rattle.canvas.specs.CanvasState.{CanvasState}
+use Rattle.canvas.specs.Writing.{Repaints}
+use Rattle.span_fill.specs.Fill.{in_fill}
+use Rattle.span_fill.specs.RowState.{RowWork, filling, idle, stroking}
+use Rattle.span_fill.specs.Spans.{in_region}
+use Rattle.span_fill.specs.declared.line.Line.{Line}
+use Rattle.span_fill.specs.declared.span.Region.{Region}
+
+-- the pixel is inside the lines, if they are filled
+abbrev pub is_filled : RowWork → List Line → ℕ → ℕ → Bool
+is_filled idle lines x y = false
+is_filled (filling rule) lines x y = in_fill rule lines x y
+is_filled (stroking nib) lines x y = false
+
+-- the pixels of a shape in a region were mixed, each once
+abbrev pub MixesShape : Region → (ℕ → ℕ → Bool) → Mix → CanvasState → CanvasState → Type 0
+MixesShape region shape mix old new = Repaints (λ x y. in_region region x y && shape x y) (λ x y c. mixed_by mix c) old new
