@@ -27,7 +27,7 @@ pub(crate) fn fill_with_stripes(part: &mut [Colour], column: u32, stripes: &Stri
     }
     repeat_whole(part, stripes.eight_from(rotated(column, 0)));
     let last = part.len() - PERIOD;
-    copy_at(part, last, stripes.eight_from(rotated(column, last & 7)));
+    copy_at(part, last, stripes.eight_from(rotated(column, last % PERIOD)));
 }
 
 /// The same for a few colours.
@@ -87,7 +87,7 @@ fn copy_at(part: &mut [Colour], at: usize, colours: &[Colour])
     ensures here { (k : ℕ) (d : Colour) → k < 8 → slice_index_or part.new (at + k) d ≡ slice_index_or colours.now k d }
     ensures after { (k : ℕ) (d : Colour) → at + 8 ≤ k → slice_index_or part.new k d ≡ slice_index_or part.old k d }
 {
-    part[at..at + PERIOD].copy_from_slice(&colours[..PERIOD]);
+    part[at..at + PERIOD].copy_from_slice(colours);
 }
 
 /// Changes each colour by the mix.

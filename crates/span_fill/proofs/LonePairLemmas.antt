@@ -1,6 +1,6 @@
 -- Two edges alone have inside what is between them.
-use Rattle.std.proofs.Common.{◌≡◌, ℕ, ◌+◌, ◌<◌, ◌≤◌, true, false, cond, not, max, min, ◌&&◌, nat_le, nat_lt, inl, inr, List, [], ◌∷◌, length, get_or, refl, sym, ap, ◌∙◌, arith}
-use Rattle.std.proofs.lemmas.Bool.{cases_Bool}
+use Rattle.std.proofs.Common.{◌≡◌, Bool, ℕ, ◌+◌, ◌<◌, ◌≤◌, true, false, cond, not, max, min, ◌&&◌, nat_le, nat_lt, inl, inr, List, [], ◌∷◌, length, get_or, refl, sym, ap, ◌∙◌, arith}
+use Rattle.std.proofs.lemmas.Bool.{cases_Bool, false≢true}
 use Rattle.std.proofs.lemmas.Bool.Decides.{nat_tests}
 use Rattle.std.specs.List.{All}
 use Rattle.mapping.specs.declared.nib.Nib.{Nib}
@@ -8,7 +8,7 @@ use Rattle.span_fill.specs.Edges.{column_of}
 use Rattle.span_fill.specs.Fill.{is_inside}
 use Rattle.span_fill.specs.Lines.{HasNearEnds}
 use Rattle.span_fill.specs.LonePairs.{is_between, is_lone_pair}
-use Rattle.span_fill.specs.RowFields.{IsFilling, row_work}
+use Rattle.span_fill.specs.RowFields.{AreCountedAlways, IsFilling, row_work}
 use Rattle.span_fill.specs.RowState.{FillsLoneSpan, IsFillingWork}
 use Rattle.span_fill.specs.Spans.{in_span}
 use Rattle.span_fill.specs.Sweep.{downwards_at, is_over_after, upwards_at}
@@ -24,10 +24,16 @@ use Rattle.span_fill.proofs.FillLemmas.{inside_is}
 
 -- two edges as a list
 pub two_edges : (rule : FillRule) (edges : List ActiveEdge) (d : ActiveEdge) → is_lone_pair rule edges ≡ true → edges ≡ get_or edges 0 d ∷ get_or edges 1 d ∷ []
+two_edges rule [] d h = absurd (false≢true h)
+two_edges rule (one ∷ []) d h = absurd (false≢true h)
 two_edges rule (one ∷ other ∷ []) d h = refl
+two_edges rule (one ∷ other ∷ next ∷ edges) d h = absurd (false≢true h)
 
 pub lone_over : (rule : FillRule) (edges : List ActiveEdge) (d : ActiveEdge) → is_lone_pair rule edges ≡ true → is_over_after rule (get_or edges 0 d) (get_or edges 1 d) ≡ true
+lone_over rule [] d h = absurd (false≢true h)
+lone_over rule (one ∷ []) d h = absurd (false≢true h)
 lone_over rule (one ∷ other ∷ []) d h = h
+lone_over rule (one ∷ other ∷ next ∷ edges) d h = absurd (false≢true h)
 
 pub between_inside : (rule : FillRule) (one other : ActiveEdge) (x : ℕ) → is_over_after rule one other ≡ true → is_inside rule (downwards_at (one ∷ other ∷ []) x) (upwards_at (one ∷ other ∷ []) x) ≡ is_between one other x
 between_inside EvenOdd one other x t =
@@ -52,3 +58,17 @@ filled_lone Filling rule nib y capacity lines edges begun one other is_sorted ev
           between x ∙ ap (λ b. in_span interval x && b) (sym (between_inside rule one other x over) ∙ inside_is rule lines (one ∷ other ∷ []) y x near (omega (arith, within, end)) filling.crosses)
       | inr f ↦ between x ∙ rw f refl
     ]
+
+pub two_long : (rule : FillRule) (edges : List ActiveEdge) → is_lone_pair rule edges ≡ true → length edges ≡ 2
+two_long rule [] h = absurd (false≢true h)
+two_long rule (one ∷ []) h = absurd (false≢true h)
+two_long rule (one ∷ other ∷ []) h = refl
+two_long rule (one ∷ other ∷ next ∷ edges) h = absurd (false≢true h)
+
+-- no table is used for two edges
+pub lone_unused : (rule : FillRule) (used : Bool) (edges : List ActiveEdge) (is_sorted : Bool) (event : ℕ) → is_lone_pair rule edges ≡ true → (used ≡ true → AreCountedAlways edges is_sorted event) → used ≡ false
+lone_unused rule false edges is_sorted event lone always = refl
+lone_unused rule true edges is_sorted event lone always =
+    let many = (always refl).many in
+    let long = two_long rule edges lone in
+    absurd (omega (arith, many, long))

@@ -59,7 +59,7 @@ pub record SameWork (old new : RowState) : Type 0 where
 
 -- the span is all of the next row, and the buffer advances to the row after it
 pub record GivesLone (old : RowState) (interval span : Span) (new : RowState) : Type 0 where
-  pub span : FillsLoneSpan old.work old.lines old.next interval span
+  pub filled : FillsLoneSpan old.work old.lines old.next interval span
   pub next : new.next ≡ old.next + 1
   pub spans : new.spans ≡ old.spans
   pub same : SameWork old new

@@ -9,17 +9,17 @@ returns c =
     let stripes = c.args.stripes.now in
     let twice = stripes.twice in
     let column = c.args.column in
-    let last = length c.repeat_whole.new.part - 8 in
-    let same = c.repeat_whole.auto.part in
+    let last = length c.repeat_whole-last.new.part - 8 in
+    let same = c.repeat_whole-last.auto.part in
     let long = c.if-part-lt-PERIOD.false in
-    let near = c.repeat_whole.ensures.all_but_few in
+    let near = c.repeat_whole-last.ensures.all_but_few in
     let first = c.rotated.ensures.place in
     let turned = c.rotated-2.ensures.place in
     λ k d h. elim (cases_lt k last) [
       | inl before ↦
           let e : (column + k % 8) % 8 ≡ (column + k) % 8 = omega arith in
           c.copy_at.ensures.before k d (omega (arith, before))
-          ∙ c.repeat_whole.ensures.colours k d (omega (arith, before, near, long, same))
+          ∙ c.repeat_whole-last.ensures.colours k d (omega (arith, before, near, long, same))
           ∙ c.eight_from.ensures.colours (k % 8) d (omega arith)
           ∙ stripe_at twice stripes.same column (k % 8) c.rotated.result d (omega (arith, first)) (omega arith)
           ∙ ap (λ (i : ℕ). get_or twice i d) e

@@ -4,4 +4,4 @@ use Rattle.canvas.proofs.parts.put_few_stripes.Given as goal
 
 -- the colours so far are those of the stripes
 abbrev pub invariant-loop-k : goal.invariant-loop-k
-invariant-loop-k l = (k : ℕ) (d : Colour) → k < l.k → get_or l.part k d ≡ get_or l.stripes.now.twice ((l.column + k) % 8) d
+invariant-loop-k l = (k : ℕ) (d : Colour) → k < l.k → get_or l.part k d ≡ get_or l.stripes.twice ((l.column + k) % 8) d
