@@ -1,8 +1,8 @@
 //! The inside of an outline, as spans for a canvas.
 
-ghost use Rattle.std.specs.Prelude.{◌≡◌, ◌<◌, ◌≤◌, IsTrue, drop, length};
+ghost use Rattle.std.specs.Prelude.{◌≡◌, ◌<◌, ◌≤◌, IsTrue, length};
 ghost use Rattle.span_fill.specs.RowState.{IsFillingWork};
-ghost use Rattle.span_fill.specs.Spans.{AreApart};
+ghost use Rattle.painting.specs.Fills.{AreSeparateFrom};
 
 use canvas::{RowSpan, SpanSource};
 use span_fill::{RowBuf, Span};
@@ -12,7 +12,7 @@ use span_fill::{RowBuf, Span};
 /// # Guarantees
 ///
 /// - The columns and the rows are those of a surface.
-/// - The spans of the latest row that weren't returned are at least one pixel apart.
+/// - The spans of the latest row that weren't returned share no column.
 #[derive(Drop)]
 pub(crate) struct FillSpans<'r> {
     pub(crate) rows: &'r mut RowBuf,
@@ -25,7 +25,7 @@ pub(crate) struct FillSpans<'r> {
     pub(crate) ghost side: { columns.to ≤ 8192 },
     pub(crate) ghost last: { end ≤ 8192 },
     pub(crate) ghost within: { returned ≤ length rows.now.spans },
-    pub(crate) ghost apart: { AreApart 0 8192 (drop returned rows.now.spans) },
+    pub(crate) ghost separate: { AreSeparateFrom returned rows.now.spans },
     pub(crate) ghost latest: { returned < length rows.now.spans → 1 ≤ rows.now.next },
 }
 
