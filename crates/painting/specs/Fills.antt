@@ -1,5 +1,5 @@
 -- The inside of lines that a row buffer fills.
-use Rattle.std.specs.Prelude.{◌≡◌, ℕ, suc, ◌≤◌, Bool, false, ◌&&◌, List, drop, slice_index_or}
+use Rattle.std.specs.Prelude.{◌≡◌, ℕ, suc, ◌≤◌, Bool, true, false, ◌&&◌, List, drop, slice_index_or}
 use Rattle.mapping.specs.Mixes.{mixed_by}
 use Rattle.mapping.specs.declared.mix.Mix.{Mix}
 use Rattle.canvas.specs.CanvasState.{CanvasState}
@@ -16,6 +16,12 @@ abbrev pub is_filled : RowWork → List Line → ℕ → ℕ → Bool
 is_filled idle lines x y = false
 is_filled (filling rule) lines x y = in_fill rule lines x y
 is_filled (stroking nib) lines x y = false
+
+-- the work is a fill
+abbrev pub is_filling : RowWork → Bool
+is_filling idle = false
+is_filling (filling rule) = true
+is_filling (stroking nib) = false
 
 -- the pixels of a shape in a region were mixed, each once
 abbrev pub MixesShape : Region → (ℕ → ℕ → Bool) → Mix → CanvasState → CanvasState → Type 0

@@ -1,5 +1,5 @@
 -- Painters of a shape's rows, as paints.
-use Rattle.std.specs.Prelude.{◌≡◌, ℕ, Bool, List, Option, None, IfSome}
+use Rattle.std.specs.Prelude.{◌≡◌, ℕ, Bool, List, Option, None, IfSome, length}
 use Rattle.mapping.specs.declared.geometry.Colour.{Colour}
 use Rattle.dc_stack.specs.Values.{placed_value}
 use Rattle.raster_ops.specs.Readers.{row_read}
@@ -32,6 +32,12 @@ painter_paint painter = record {
   has = row_ops_have painter.row_ops;
   makes = row_ops_make painter.row_ops;
 }
+
+-- row operations that repeat are eight
+abbrev pub HasEight : RowOps → Type 0
+HasEight (Same row_op) = Unit
+HasEight (Repeated row_ops) = length row_ops.now ≡ 8
+HasEight (EachRow paint) = Unit
 
 -- the row operations have no source
 abbrev pub ReadsNothing : RowOps → Type 0

@@ -1,8 +1,7 @@
 //! The inside of an outline, as spans for a canvas.
 
-ghost use Rattle.std.specs.Prelude.{◌≡◌, ◌<◌, ◌≤◌, IsTrue, length};
-ghost use Rattle.span_fill.specs.RowState.{IsFillingWork};
-ghost use Rattle.painting.specs.Fills.{AreSeparateFrom};
+ghost use Rattle.std.specs.Prelude.{◌≡◌, ◌<◌, ◌≤◌, IsTrue, length, true};
+ghost use Rattle.painting.specs.Fills.{AreSeparateFrom, is_filling};
 
 use canvas::{RowSpan, SpanSource};
 use span_fill::{RowBuf, Span};
@@ -20,7 +19,7 @@ pub(crate) struct FillSpans<'r> {
     pub(crate) end: u32,
     /// How many spans of the latest row were returned.
     pub(crate) returned: usize,
-    pub(crate) ghost filling: { IsFillingWork rows.now.work },
+    pub(crate) ghost filling: { is_filling rows.now.work ≡ true },
     pub(crate) ghost order: { columns.from ≤ columns.to },
     pub(crate) ghost side: { columns.to ≤ 8192 },
     pub(crate) ghost last: { end ≤ 8192 },

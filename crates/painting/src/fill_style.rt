@@ -1,6 +1,6 @@
 //! Fill styles: how a brush changes pixels, by a raster operation, in the current modes and under a clip.
 
-ghost use Rattle.std.specs.Prelude.{◌≡◌, ◌≤◌, ℕ, None, IfSome, if◌then◌else◌};
+ghost use Rattle.std.specs.Prelude.{◌≡◌, ◌≤◌, ℕ, None, IfSome, IsTrue, length, if◌then◌else◌};
 ghost use Rattle.mapping.specs.Colours.{black_colour};
 ghost use Rattle.dc_stack.specs.Drawing.{tools_of};
 ghost use Rattle.draw_ops.specs.Objects.{brush_value_of};
@@ -37,7 +37,7 @@ pub(crate) struct FillStyle<'d, 'a> {
 
 impl<'d, 'a> FillStyle<'d, 'a> {
     ghost use Rattle.painting.specs.FillStyles.{fill_style_paint, colour_of};
-    ghost use Rattle.painting.specs.RowPainters.{ReadsAs, ReadsNothing, painter_paint};
+    ghost use Rattle.painting.specs.RowPainters.{HasEight, ReadsAs, ReadsNothing, painter_paint};
     ghost use Rattle.painting.specs.RowsPainted.{AreRepeatedRowOps, IsRowOp, IsSameMix, IsSameRowOp};
 
     /// The fill style of a brush in the machine's current state.
@@ -92,12 +92,14 @@ impl<'d, 'a> FillStyle<'d, 'a> {
     pub(crate) fn painter<'p>(
         &'p self,
         columns: Span,
-        hatch: &'p Option<[RowOp<'static>; PERIOD]>,
+        hatch: Option<&'p [RowOp<'static>]>,
     ) -> RowPainter<'p, 'd, 'a>
-        requires { IfSome hatch.now (AreRepeatedRowOps (fill_style_paint self.now)) }
+        requires eight { IfSome hatch (λ row_ops. length row_ops.now ≡ 8) }
+        requires hatch { IfSome hatch (λ row_ops. AreRepeatedRowOps (fill_style_paint self.now) row_ops.now) }
         ensures paint { SamePaint (painter_paint result) (fill_style_paint self.now) }
         ensures columns { result.columns ≡ columns }
         ensures clip { result.clip.now ≡ self.now.clip.now }
+        ensures eight { HasEight result.row_ops }
         ensures alone { self.now.source ≡ None → ReadsNothing result.row_ops }
         ensures reads { ReadsAs self.now.source result.row_ops }
     {
@@ -133,21 +135,25 @@ impl<'d, 'a> FillStyle<'d, 'a> {
         }
     }
 
-    /// The row operations of a hatch without a source, if there are enough rows to use each of them.
-    pub(crate) fn hatch_row_ops(&self, rows: Span) -> Option<[RowOp<'static>; PERIOD]>
-        ensures { IfSome result (AreRepeatedRowOps (fill_style_paint self.now)) }
+    /// Puts the row operations of a hatch without a source, if there are enough rows to use each of them, and returns
+    /// whether it did.
+    pub(crate) fn put_hatch_row_ops(&self, rows: Span, row_ops: &mut [RowOp<'static>]) -> bool
+        requires { length row_ops.old ≡ 8 }
+        ensures { IsTrue result → AreRepeatedRowOps (fill_style_paint self.now) row_ops.new }
     {
         let (Brush::Hatched { .. }, None) = (self.brush, self.source) else {
-            return None;
+            return false;
         };
-        if rows.to.saturating_sub(rows.from) < PERIOD as u32 {
-            return None;
+        if rows.to.saturating_sub(rows.from) < PERIOD {
+            return false;
         }
-        let mut row_ops = [RowOp::Nothing; PERIOD];
         for y in 0..PERIOD {
-            row_ops[y] = ungathered_row_op(&self.brush_row(y as u32), self.operation)?;
+            let Some(row_op) = ungathered_row_op(&self.brush_row(y), self.operation) else {
+                return false;
+            };
+            row_ops[y as usize] = row_op;
         }
-        Some(row_ops)
+        true
     }
 
     /// The row operation for some columns of a row. The source colours of these columns must have been gathered.

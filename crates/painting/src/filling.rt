@@ -1,6 +1,6 @@
 //! Fills the inside of outlines and boxes, row by row.
 
-ghost use Rattle.std.specs.Prelude.{◌≡◌, ◌≤◌, ℕ, [], None, true, length, IfSome};
+ghost use Rattle.std.specs.Prelude.{◌≡◌, ◌≤◌, ℕ, [], None, true, length, IfSome, IsTrue};
 ghost use Rattle.mapping.specs.PixelBoxes.{in_box};
 ghost use Rattle.span_fill.specs.RowState.{IsFillingWork};
 ghost use Rattle.painting.specs.FillStyles.{fill_style_paint, in_inside};
@@ -14,6 +14,7 @@ use crate::fill_spans::FillSpans;
 use crate::fill_style::FillStyle;
 use crate::outline_rows::{Part, paint_rows, rule_of};
 use crate::regions::{visible_in, whole_law};
+use crate::row_op::RowOp;
 use crate::row_op_scratch::RowOpScratch;
 use crate::scratch::DrawingScratch;
 use crate::seen_columns::uncut_part;
@@ -51,9 +52,17 @@ pub(crate) fn fill_inside<O: Outline + Copy>(
         mix_inside(canvas, &mut scratch.rows, drawn, mix);
         return;
     }
-    let hatch = paint.hatch_row_ops(drawn.rows);
-    let painter = paint.painter(drawn.columns, &hatch);
+    let mut hatch = [RowOp::Nothing; 8];
+    let is_hatch = paint.put_hatch_row_ops(drawn.rows, &mut hatch);
+    let painter = paint.painter(drawn.columns, given(is_hatch, &hatch));
     paint_rows(canvas, scratch, Part::Inside(rule), drawn.rows, &painter);
+}
+
+/// These row operations, if there are any.
+fn given<'p>(are_given: bool, row_ops: &'p [RowOp<'static>]) -> Option<&'p [RowOp<'static>]>
+    ensures { IfSome result (λ given. (given.now ≡ row_ops.now) × IsTrue are_given) }
+{
+    if are_given { Some(row_ops) } else { None }
 }
 
 /// Mixes the pixels of a region that are inside the lines with which a row buffer has begun.
@@ -99,8 +108,9 @@ pub(crate) fn fill_box(
     if columns.from >= columns.to {
         return;
     }
-    let hatch = paint.hatch_row_ops(drawn.rows);
-    let mut painter = paint.painter(columns, &hatch);
+    let mut hatch = [RowOp::Nothing; 8];
+    let is_hatch = paint.put_hatch_row_ops(drawn.rows, &mut hatch);
+    let mut painter = paint.painter(columns, given(is_hatch, &hatch));
     let mut kept = None;
     for y in drawn.rows.from..drawn.rows.to {
         painter.columns = uncut_part(columns, y, painter.clip.cut_boxes());

@@ -20,7 +20,7 @@ use raster_ops::{BrushRow, TernaryMixer, copy_law, gather_pattern, pattern};
 use span_fill::Span;
 
 /// The rows after which a hatch repeats.
-pub(crate) const PERIOD: usize = 8;
+pub(crate) const PERIOD: u32 = 8;
 
 /// The table of the operation that copies the pattern, whatever the old colour.
 const PATCOPY: u8 = 0xf0;
