@@ -15,4 +15,4 @@ all_set (suc (suc (suc (suc (suc (suc (suc zero))))))) h = refl
 all_set (suc (suc (suc (suc (suc (suc (suc (suc n)))))))) h = absurd (omega (arith, h))
 
 pub returns-in-255-clause-test : goal.returns-in-255-clause-test
-returns-in-255-clause-test c = λ x. c.full.ensures.test x ∙ sym (all_set (x % 8) (omega arith))
+returns-in-255-clause-test c = λ x. c.full.ensures.test x ∙ rw c.in-255.is (sym (all_set (x % 8) (omega arith)))

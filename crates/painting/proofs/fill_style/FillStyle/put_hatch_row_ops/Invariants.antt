@@ -8,5 +8,5 @@ use Rattle.painting.proofs.fill_style.FillStyle.put_hatch_row_ops.Given as goal
 abbrev pub invariant-loop-y : goal.invariant-loop-y
 invariant-loop-y l = record {
   eight : length l.row_ops ≡ 8;
-  made : (k : ℕ) → k < l.y → IsRowOpOf (fill_style_paint l.self.now) k (get_or l.row_ops k Nothing);
+  made : (k : ℕ) → k < l.y → IsRowOpOf (fill_style_paint l.self) k (get_or l.row_ops k Nothing);
 }

@@ -27,9 +27,9 @@ pub returns-in-Repeated-clause-painted : goal.returns-in-Repeated-clause-painted
 returns-in-Repeated-clause-painted c =
     let row_ops = c.in-Repeated.row_ops.now in
     let eight : length row_ops ≡ 8 = rw c.in-Repeated.is at c.requires.eight in
-    let is : c.index.result.now ≡ repeated_row_op row_ops c.args.y = get_or_read row_ops (c.args.y % 8) c.index.result.now (omega (arith, eight)) c.index.ensures Nothing in
+    let is : c.index-row_ops-y.result ≡ repeated_row_op row_ops c.args.y = get_or_read row_ops (c.args.y % 8) c.index-row_ops-y.result (omega (arith, eight)) c.index-row_ops-y.ensures Nothing in
     record {
-      row_op = c.index.result.now;
+      row_op = c.index-row_ops-y.result;
       is_row_op = record { test = λ x. rw (c.in-Repeated.is, is) refl; colour = λ x old low high i. rw (c.in-Repeated.is, is) refl };
       painted = rw c.cut_boxes-cuts.ensures at c.put_spans-in-Repeated.ensures.pixels;
     }
