@@ -1,5 +1,5 @@
-use Rattle.std.proofs.Common.{◌≡◌, ◌%◌, arith, length, refl, ◌∙◌}
-use Rattle.std.proofs.lemmas.List.{get_or_read}
+use Rattle.std.proofs.Common.{◌≡◌, ◌%◌, arith, get_or, length, refl, ◌∙◌}
+use Rattle.std.proofs.lemmas.List.{get_or_default}
 use Rattle.painting.specs.RowOps.{repeated_row_op}
 use Rattle.painting.specs.declared.row_op.RowOp.TheVariants.{Nothing}
 use Rattle.painting.proofs.row_painter.RowPainter.put_row.Goals as goal
@@ -27,9 +27,10 @@ pub returns-in-Repeated-clause-painted : goal.returns-in-Repeated-clause-painted
 returns-in-Repeated-clause-painted c =
     let row_ops = c.in-Repeated.row_ops.now in
     let eight : length row_ops ≡ 8 = rw c.in-Repeated.is at c.requires.eight in
-    let is : c.index-row_ops-y.result ≡ repeated_row_op row_ops c.args.y = get_or_read row_ops (c.args.y % 8) c.index-row_ops-y.result (omega (arith, eight)) c.index-row_ops-y.ensures Nothing in
+    let given = get_or row_ops (c.args.y % 8) c.index-row_ops-y.result in
+    let is : given ≡ repeated_row_op row_ops c.args.y = get_or_default row_ops (c.args.y % 8) c.index-row_ops-y.result Nothing (omega (arith, eight)) in
     record {
-      row_op = c.index-row_ops-y.result;
+      row_op = given;
       is_row_op = record { test = λ x. rw (c.in-Repeated.is, is) refl; colour = λ x old low high i. rw (c.in-Repeated.is, is) refl };
       painted = rw c.cut_boxes-cuts.ensures at c.put_spans-in-Repeated.ensures.pixels;
     }
