@@ -20,8 +20,8 @@ const NEW_MODE: u32 = 0o666;
 /// The mode of a new file until it gets the old one's: no other user can open it earlier.
 const CLOSED_MODE: u32 = 0o600;
 
-/// What a new file may have of an old one's mode. It belongs to whoever runs the program, so it may not run as its owner
-/// or its group, as the old one perhaps does.
+/// What a new file takes of an old one's mode. The new file belongs to whoever runs the program, so with a setuid or
+/// setgid bit others could act as that user.
 const ACCESS: u32 = 0o777;
 
 /// A file that is written beside the named one, and gets its name when it is flushed. Until then, a file of that name
@@ -80,7 +80,7 @@ impl<'a, R: Files + AllocGlobal> NamedOutput<'a, R> {
     }
 
     /// Opens what is written. A plain file that isn't writable stays as it is. A new file gets the access that an old
-    /// one allows, by its handle, since its path may lead elsewhere by now.
+    /// one allows. Its mode is set through the open file, because another file may have its path by now.
     fn open(&mut self) -> io::Result<()> {
         match what_has_name(self.rt, self.name)? {
             Named::Nothing => {
