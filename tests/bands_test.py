@@ -98,6 +98,12 @@ class Bands(unittest.TestCase):
                 given = form.file(form.records(script), 8, 0)
                 self.assertTrue(self.check(program, given, (8, 8), [1, 2, 3, 4, 5, 7, 8]), (form.name, top))
 
+    @for_each_program
+    def test_what_is_open_at_the_end_is_gone_in_the_next_band(self, program):
+        for left in ("begin_path; line 3 3", "begin_path; line 3 3; end_path", "256x save", "pen_at 1; select 1", "move 7 7"):
+            given = EMF.file(EMF.records(f"line 6 5; rectangle 0 0 6 6; {left}"), 8, HANDLES)
+            self.assertTrue(self.check(program, given, (8, 8), BANDS), left)
+
     def test_no_other_bands(self):
         file, certificate = self.path("file", (SAMPLES / "dot.wmf").read_bytes()), self.path("certificate")
         self.assertEqual(answer(PROGRAMS[0], ["prepare", file, "4", "4", certificate]), Answer(0, b"", b""))

@@ -36,6 +36,13 @@ class Show(CommandsTest):
         self.check(cases)
 
 
+    def test_an_image_that_cannot_be_written_has_status_3(self):
+        image = b"P6\n4 1\n255\n" + b"\xff" * 6 + b"\xff\0\0" + b"\xff" * 3
+        outputs = [Output(0), Output(10), Output(22), Output(23, False)]
+        command = Command(SHOW, DOT, sides=(4, 1))
+        self.check([(command._replace(out=out), Ended(3, image[: out.most], CANNOT_WRITE)) for out in outputs])
+
+
 class Prepare(CommandsTest):
     """`prepare`."""
 

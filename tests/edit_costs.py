@@ -17,6 +17,7 @@ import tempfile
 from typing import NamedTuple
 
 import edits
+from edit_functions import unproved
 from edit_rounds import beside, rounds_of
 from edit_trials import copy_of, rt
 
@@ -57,10 +58,11 @@ def seconds(process):
 
 
 def costs(crate, asked, texts, kept):
-    """What each proof of a round's check took: of the edits that it asks for, and of what they call."""
+    """What the proof of each function took that the edits of a round change. The others are left unproved, as edits.py leaves them."""
     names = {name: edit.name for edit in asked for name in edit.functions}
     words = [word for name in names for word in ("--only", name)]
-    with copy_of(crate, texts) as room:
+    texts, others = unproved(crate.name, texts, names)
+    with copy_of(crate, texts, others) as room:
         whole = ["check", *crate.words(["--jobs", "1", "--progress", *words], keeps=False), "--incremental", kept]
         how = {"cwd": room, "stdin": subprocess.DEVNULL, "stdout": subprocess.PIPE, "stderr": subprocess.STDOUT, "text": True, "errors": "replace"}
         with subprocess.Popen([*rt.rtlib.guarded(), rt.rtlib.RATTLE, *whole], **how) as ran:

@@ -6,7 +6,7 @@
     edits.py CRATE..            tries all edits of these crates, whatever is on record, and the judge itself if mapping is one of them
     edits.py --all              tries all edits of all crates, whatever is on record, and the judge itself
     edits.py --record [CRATE..] the same, of all crates or of these; then puts each crate on record whose edits were all refused, and takes
-                                every other crate that was tried off it. Nothing else writes edits/judged.json
+                                every other crate that was tried off it. Beside gate.py --record nothing else writes edits/judged.json
     edits.py --each CRATE       has the toolchain's own judge try a crate's edits, one by one
     edits.py --alone FILE..     tries the edits of these files, .../CRATE/NAME.edit, each alone, by the function that it changes
 
@@ -195,6 +195,11 @@ def try_parts(parts, wrong):
     with ThreadPoolExecutor(lanes()) as pool:
         tried = list(pool.map(try_part, parts))
     return ended(parts, [*wrong, *(said for its in tried for said in its)])
+
+
+def entries_now():
+    """The wrong bodies of each crate, with what would be on record of it now."""
+    return [(it, it.entry()) for it in bodies_of([])]
 
 
 def put_on_record(bodies, entry):

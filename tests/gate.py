@@ -1,8 +1,9 @@
 #!/usr/bin/env python3
 """The gate.
 
-    gate.py          proves what earlier runs on this machine didn't, and tries the edits that edits/judged.json leaves to try (judged.py)
-    gate.py --anew   proves everything, and tries every edit
+    gate.py           proves what earlier runs on this machine didn't, and tries the edits that edits/judged.json leaves to try (judged.py)
+    gate.py --anew    proves everything, and tries every edit
+    gate.py --record  the same, and if all passed, puts every crate on record (edits/judged.json)
 
 It runs `rt ci`, beside it tries the edits of each crate as soon as the libraries below the crate are proved, and then runs the
 tests over the built programs, beside the edits that are left.
@@ -167,15 +168,20 @@ def main():
     """Answers the status. What is wrong with the edits or their record is said before anything runs."""
     words = argparse.ArgumentParser(description=__doc__, formatter_class=argparse.RawDescriptionHelpFormatter)
     words.add_argument("--anew", action="store_true")
-    is_anew = words.parse_args().anew
+    words.add_argument("--record", action="store_true")
+    asked = words.parse_args()
+    is_anew = asked.anew or asked.record
     os.chdir(edits.ROOT)
     clock = Clock()
     parts, wrong = edits.parts_of_crates([]) if is_anew else edits.parts_on_record()
     if wrong:
         return edits.ended([], wrong)
     edits.rt.rtlib.guarded()
-    ci = ["rt", "ci", *["--anew"] * is_anew]
-    return in_turn(clock, ci, parts) if is_built() else beside(clock, ci, parts)
+    ci, tried = ["rt", "ci", *["--anew"] * is_anew], edits.entries_now() if asked.record else []
+    status = in_turn(clock, ci, parts) if is_built() else beside(clock, ci, parts)
+    for bodies, entry in [] if status else tried:
+        edits.put_on_record(bodies, entry)
+    return status
 
 
 if __name__ == "__main__":

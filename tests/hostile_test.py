@@ -6,7 +6,7 @@ import unittest
 from hostile.pool import try_all
 
 # How many cases there are. Of these so many at least are accepted with their certificates, and refused.
-CASES = 10_000
+CASES = 6_000
 ACCEPTED, REFUSED = CASES // 5, CASES // 2
 
 SEED = "gate"

@@ -224,9 +224,52 @@ class FewPoints(ShapeTest):
     def test_empty_lists_among_others_add_nothing(self, program):
         for lists in (f"| {TRIANGLE}", f"{TRIANGLE} |", f"| | {TRIANGLE} | 3 3 |"):
             self.check_drawings(program, {f"{BOTH}; polygons {lists}": TRIANGLE_DRAWN})
+        # More counts of 0 than are looked at together: of two bytes in WMF, of four in EMF.
+        for count in range(3, 19):
+            empty_lists = "| " * count
+            for lists in (f"{empty_lists}{TRIANGLE}", f"3 3 | {empty_lists}{TRIANGLE} | {empty_lists}"):
+                self.check_drawings(program, {f"{BOTH}; polygons {lists}": TRIANGLE_DRAWN})
         # The lists aren't one: there is no line between them.
         pictures = {f"{BOTH}; polygons 0 0 3 0 | 0 2 3 2": "#### .... #### ...."}
         self.check_drawings(program, pictures)
+
+
+def upright(column, top, bottom, is_down):
+    """A rectangle whose left side is a line down or up on the left of a column, and whose right side is beyond the surface."""
+    left, right = [(column, top), (column, bottom)], [(100, bottom), (100, top)]
+    corners = left + right if is_down else left[::-1] + right[::-1]
+    return " ".join(f"{x} {y}" for x, y in corners)
+
+
+# Columns 5, 2, 7, 0, 4, 1, 6 and 3 each have a line through rows 0 to 11: downwards on the even columns, upwards on the others. Column 3 has 91
+# more downwards in rows 0 to 3, and column 5 has 91 more upwards in rows 8 to 11.
+MANY = " | ".join(
+    [
+        *[upright(3, 0, 4, True)] * 91,
+        *[upright(column, 0, 12, column % 2 == 0) for column in (5, 2, 7, 0)],
+        *[upright(5, 8, 12, False)] * 91,
+        *[upright(column, 0, 12, column % 2 == 0) for column in (4, 1, 6, 3)],
+    ]
+)
+
+# Rows 0 to 3, 4 to 7 and 8 to 11 by each rule. By the first, a pixel is inside if an odd number of lines is to its left. By the second, if the
+# number of lines to its left that run downwards differs from the number of those that run upwards.
+MANY_DRAWN = {
+    ALTERNATE: ("#.##.#.#####", "#.#.#.#.....", "#.#.##.#####"),
+    WINDING: ("#.##########", "#.#.#.#.....", "#.#.########"),
+}
+
+
+class ManyEdges(ShapeTest):
+    """Rows with many more edges than columns, then rows with few, and then rows with many again."""
+
+    @for_each_program
+    def test_rows_of_many_edges_and_of_few_follow_each_other(self, program):
+        for mode, parts in MANY_DRAWN.items():
+            rows = " ".join(part for part in parts for _ in range(4))
+            self.check_drawings(program, {f"{mode}; {BLACK_FILL}; polygons {MANY}": rows})
+            inside = " ".join("..%s......" % part[2:6] for part in parts for _ in range(4))
+            self.check_drawings(program, {f"{mode}; {BLACK_FILL}; keep 2 0 6 12; polygons {MANY}": inside})
 
 
 # The farthest that the surface's coordinates go, and those of the plane.

@@ -24,24 +24,6 @@ fn command(alloc: Global, words: &[String]) -> Option<CommandLine<'_>> {
 }
 
 #[test]
-fn a_command_line_asks_for_a_file_and_dimensions(rt: HostRuntime) -> Result<(), Fail> {
-    for (width, height, wide, high) in [("1", "8192", 1, 8192), ("400", "+3", 400, 3)] {
-        let asked = words(rt.alloc(), &["metaplay", "show", "a.wmf", width, height])?;
-        let want = CommandLine::Show {
-            file: "a.wmf",
-            width: wide,
-            height: high,
-            fit: false,
-        };
-        assert!(rt;
-            command(rt.alloc(), asked.as_slice()) == Some(want),
-            "{width} {height}"
-        );
-    }
-    Ok(())
-}
-
-#[test]
 fn each_side_from_1_to_8192_is_taken_in_both_places(rt: HostRuntime) -> Result<(), Fail> {
     for side in 0..=8193u32 {
         let text = format!(in rt.alloc(); "{side}")?;
@@ -75,40 +57,6 @@ fn shown(width: u32, height: u32) -> CommandLine<'static> {
         height,
         fit: false,
     }
-}
-
-#[test]
-fn a_command_line_asks_for_the_proportion(rt: HostRuntime) -> Result<(), Fail> {
-    let shown = words(
-        rt.alloc(),
-        &["metaplay", "show", "a.wmf", "4", "5", "--fit"],
-    )?;
-    let want = CommandLine::Show {
-        file: "a.wmf",
-        width: 4,
-        height: 5,
-        fit: true,
-    };
-    same(&rt, command(rt.alloc(), shown.as_slice()), Some(want));
-    for options in [["--bands", "3", "--fit"], ["--fit", "--bands", "3"]] {
-        let [first, second, third] = options;
-        let played = words(
-            rt.alloc(),
-            &[
-                "metaplay", "play", "a.wmf", "a.cert", "4", "5", first, second, third,
-            ],
-        )?;
-        let want = CommandLine::Play {
-            file: "a.wmf",
-            certificate: "a.cert",
-            width: 4,
-            height: 5,
-            bands: Some(3),
-            fit: true,
-        };
-        same(&rt, command(rt.alloc(), played.as_slice()), Some(want));
-    }
-    Ok(())
 }
 
 #[test]

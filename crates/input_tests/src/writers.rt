@@ -74,21 +74,6 @@ impl Write for Deaf {
 }
 
 #[test]
-fn a_failed_write_or_flush_has_status_3(rt: HostRuntime) -> Result<(), Fail> {
-    for (most, can_flush) in [(0, true), (10, true), (58, true), (59, false)] {
-        let mut out = Counting::new(limited(rt.alloc(), most, can_flush));
-        let mut err = Counting::new(Vec::new(rt.alloc()));
-        let status = show_command(rt.alloc(), DOT, 4, 4, &mut out, &mut err).status();
-        let out = out.into_writer();
-        let err = err.into_writer();
-        same(&rt, (most, status), (most, 3));
-        same(&rt, err.as_slice(), b"metaplay: cannot write\n".as_slice());
-        same(&rt, out.taken.len(), most);
-    }
-    Ok(())
-}
-
-#[test]
 fn an_image_is_flushed_once_after_its_last_byte(rt: HostRuntime) -> Result<(), Fail> {
     let mut out = Counting::new(Slow::new(rt.alloc(), u32::MAX, io::ErrorKind::Other));
     let mut err = Counting::new(Slow::new(rt.alloc(), u32::MAX, io::ErrorKind::Other));
@@ -116,19 +101,6 @@ fn a_rejected_file_writes_and_flushes_nothing(rt: HostRuntime) -> Result<(), Fai
         err.taken.as_slice(),
         b"metaplay: PastEnd at record 0\n".as_slice(),
     );
-    Ok(())
-}
-
-#[test]
-fn an_image_of_one_row_may_fail_at_its_flush(rt: HostRuntime) -> Result<(), Fail> {
-    let mut out = Counting::new(limited(rt.alloc(), 1000, false));
-    let mut err = Counting::new(Vec::new(rt.alloc()));
-    let status = show_command(rt.alloc(), DOT, 4, 1, &mut out, &mut err).status();
-    let out = out.into_writer();
-    let err = err.into_writer();
-    same(&rt, status, 3);
-    same(&rt, out.taken.as_slice(), ROW);
-    same(&rt, err.as_slice(), b"metaplay: cannot write\n".as_slice());
     Ok(())
 }
 

@@ -50,25 +50,6 @@ fn a_band_holds_its_rows(rt: HostRuntime) -> Result<(), Fail> {
 }
 
 #[test]
-fn a_band_is_shown_again(rt: HostRuntime) -> Result<(), Fail> {
-    let mut band = Canvas::band(rt.alloc(), 3, 8_190, 2, GREY)?;
-    assert!(rt; band.has_pixel(2, 8_191) && band.writes() < 1000);
-    band.put(2, 8_191, RED);
-    assert!(rt; band.most_rows() == 2);
-    band.again(0, 1, RED);
-    same(&rt, (band.width(), band.first(), band.rows()), (3, 0, 1));
-    same(&rt, (band.most_rows(), band.writes()), (2, 1));
-    assert!(rt; band.has_pixel(0, 0) && band.has_pixel(2, 0) && !band.has_pixel(0, 1));
-    same(&rt, (band.colour(0, 0), band.colour(2, 0)), (RED, RED));
-    assert!(rt; band.most_rows() == 2);
-    band.again(5, 2, GREY);
-    assert!(rt; band.has_pixel(0, 5) && band.has_pixel(2, 6) && !band.has_pixel(0, 7));
-    same(&rt, (band.colour(0, 5), band.colour(2, 6)), (GREY, GREY));
-    same(&rt, (band.most_rows(), band.writes()), (2, 1));
-    Ok(())
-}
-
-#[test]
 fn a_header_and_two_bands_are_the_whole_text(rt: HostRuntime) -> Result<(), Fail> {
     let mut out = Vec::new(rt.alloc());
     write_header(&mut out, 1, 3)?;
@@ -82,18 +63,6 @@ fn a_header_and_two_bands_are_the_whole_text(rt: HostRuntime) -> Result<(), Fail
         &rt,
         out.as_slice(),
         b"P6\n1 3\n255\n\xff\x00\x00\xff\x00\x00\x07\x08\x09".as_slice(),
-    );
-    Ok(())
-}
-
-#[test]
-fn the_longest_header(rt: HostRuntime) -> Result<(), Fail> {
-    let mut out = Vec::new(rt.alloc());
-    write_header(&mut out, 4_294_967_295, 4_294_967_295)?;
-    same(
-        &rt,
-        out.as_slice(),
-        b"P6\n4294967295 4294967295\n255\n".as_slice(),
     );
     Ok(())
 }

@@ -1,4 +1,4 @@
-//! P6 texts byte by byte, and writers that are slow or fail.
+//! Canvases, and their P6 texts to writers that are slow or fail.
 
 use crate::comparing::same;
 use canvas::{Canvas, OutOfMemory, WriteFault};
@@ -65,34 +65,6 @@ impl Write for Pieces {
     fn flush(&mut self) -> io::Result<()> {
         Ok(())
     }
-}
-
-#[test]
-fn one_pixel_as_text(rt: HostRuntime) -> Result<(), Fail> {
-    let canvas = Canvas::new(rt.alloc(), 1, 1, Colour { r: 1, g: 2, b: 255 })?;
-    let mut out = Vec::new(rt.alloc());
-    canvas.write_ppm(&mut out)?;
-    same(
-        &rt,
-        out.as_slice(),
-        b"P6\n1 1\n255\n\x01\x02\xff".as_slice(),
-    );
-    Ok(())
-}
-
-#[test]
-fn two_pixels_as_text(rt: HostRuntime) -> Result<(), Fail> {
-    let mut canvas = Canvas::new(rt.alloc(), 2, 1, Colour::WHITE)?;
-    assert!(rt; canvas.has_pixel(1, 0) && canvas.writes() < 1000);
-    canvas.put(1, 0, RED);
-    let mut out = Vec::new(rt.alloc());
-    canvas.write_ppm(&mut out)?;
-    same(
-        &rt,
-        out.as_slice(),
-        b"P6\n2 1\n255\n\xff\xff\xff\xff\x00\x00".as_slice(),
-    );
-    Ok(())
 }
 
 #[test]
@@ -176,50 +148,6 @@ fn a_large_text_goes_out_in_large_pieces(rt: HostRuntime) -> Result<(), Fail> {
         pieces.lengths.as_slice(),
         [14 + 12288, 12288].as_slice(),
     );
-    Ok(())
-}
-
-#[test]
-fn a_text_ends_with_its_last_pixel(rt: HostRuntime) -> Result<(), Fail> {
-    // Around the 4,096 pixels of a piece. The header has 14 bytes, and each pixel has 3.
-    let sizes: [(u32, &[usize]); 3] = [
-        (4095, &[14 + 12285]),
-        (4096, &[14 + 12288]),
-        (4097, &[14 + 12288, 3]),
-    ];
-    for (width, lengths) in sizes {
-        let mut canvas = Canvas::new(rt.alloc(), width, 1, Colour::WHITE)?;
-        assert!(rt; canvas.has_pixel(width - 1, 0) && canvas.writes() < 1000);
-        canvas.put(width - 1, 0, RED);
-        let mut pieces = Pieces {
-            lengths: Vec::new(rt.alloc()),
-        };
-        canvas.write_ppm(&mut pieces)?;
-        same(&rt, (width, pieces.lengths.as_slice()), (width, lengths));
-        let mut text = Vec::new(rt.alloc());
-        canvas.write_ppm(&mut text)?;
-        let end = b"\xff\xff\xff\xff\x00\x00".as_slice();
-        assert!(rt; text.as_slice().ends_with(end), "{width} pixels");
-    }
-    Ok(())
-}
-
-#[test]
-fn a_canvas_has_each_side_up_to_8192(rt: HostRuntime) -> Result<(), Fail> {
-    for side in [1, 8191, 8192] {
-        let wide = Canvas::new(rt.alloc(), side, 1, RED)?;
-        assert!(rt;
-            wide.has_pixel(side - 1, 0) && !wide.has_pixel(side, 0),
-            "{side}"
-        );
-        same(&rt, (side, wide.colour(side - 1, 0)), (side, RED));
-        let high = Canvas::new(rt.alloc(), 1, side, RED)?;
-        assert!(rt;
-            high.has_pixel(0, side - 1) && !high.has_pixel(0, side),
-            "{side}"
-        );
-        same(&rt, (side, high.colour(0, side - 1)), (side, RED));
-    }
     Ok(())
 }
 

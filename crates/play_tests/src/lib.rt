@@ -10,14 +10,8 @@ mod cleared;
 #[cfg(test)]
 mod comparing;
 #[cfg(test)]
-mod files;
-#[cfg(test)]
 mod machines;
 #[cfg(test)]
 mod paths;
-#[cfg(test)]
-mod rows_apart;
-#[cfg(test)]
-mod sources;
 #[cfg(test)]
 mod stepping;

@@ -1,4 +1,4 @@
-//! Paths of a machine: the pieces that it lets others borrow, its state after a failed step, and failed allocations.
+//! Paths of a machine: the pieces that it lets others borrow, and failed allocations.
 
 use crate::comparing::same;
 use crate::stepping::{machine, step};
@@ -10,12 +10,6 @@ use std::test::Fail;
 use test_support::DOT;
 
 const LINE: Op<'static> = Op::LineTo(Point { x: 1, y: 2 });
-
-/// A point whose column lands beyond the limit.
-const FAR: Point = Point {
-    x: 1_073_741_825,
-    y: 0,
-};
 
 #[test]
 fn pieces_are_borrowed_until_the_next_accepted_step(rt: HostRuntime) -> Result<(), Fail> {
@@ -31,46 +25,6 @@ fn pieces_are_borrowed_until_the_next_accepted_step(rt: HostRuntime) -> Result<(
     ] {
         same(&rt, step(&mut machine, op), answer);
         same(&rt, machine.painted().len(), borrowed);
-    }
-    Ok(())
-}
-
-#[test]
-fn a_new_start_has_no_path(rt: HostRuntime) -> Result<(), Fail> {
-    let opened = open_file(DOT)?;
-    let mut machine = machine(rt.alloc(), &opened);
-    same(&rt, step(&mut machine, Op::BeginPath), Ok(false));
-    machine.restart(&opened);
-    same(
-        &rt,
-        step(&mut machine, Op::EndPath),
-        Err(Fault::Record(RecordFault::PathState)),
-    );
-    same(&rt, machine.needs().pieces, 0);
-    Ok(())
-}
-
-#[test]
-fn a_rejected_line_begins_no_figure(rt: HostRuntime) -> Result<(), Fail> {
-    let opened = open_file(DOT)?;
-    let mut machine = machine(rt.alloc(), &opened);
-    for (op, answer, pieces) in [
-        (Op::BeginPath, Ok(false), 0),
-        (
-            Op::LineTo(FAR),
-            Err(Fault::Record(RecordFault::OffPlane)),
-            0,
-        ),
-        (LINE, Ok(false), 2),
-        (
-            Op::LineTo(FAR),
-            Err(Fault::Record(RecordFault::OffPlane)),
-            2,
-        ),
-        (LINE, Ok(false), 3),
-    ] {
-        same(&rt, step(&mut machine, op), answer);
-        same(&rt, machine.needs().pieces, pieces);
     }
     Ok(())
 }
