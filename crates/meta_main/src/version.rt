@@ -2,4 +2,4 @@
 
 /// The line that `--version` writes: the version, and the checksum of all sources but this one.
 pub(crate) const VERSION: &str =
-    "metaplay 1.0.0 (sources fd97932cd11899d0589cbb651739b522370917d70f996a578c05c9c2eb1c5edc)\n";
+    "metaplay 1.0.0 (sources 7e556a84f4da2e863e0793e5494c7b48791da4041448d162f558efb1eb86df15)\n";
