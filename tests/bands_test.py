@@ -100,7 +100,7 @@ class Bands(unittest.TestCase):
 
     @for_each_program
     def test_what_is_open_at_the_end_is_gone_in_the_next_band(self, program):
-        for left in ("begin_path; line 3 3", "begin_path; line 3 3; end_path", "256x save", "pen_at 1; select 1", "move 7 7"):
+        for left in ("begin_path; line 3 3", "begin_path; line 3 3; end_path", "256x save", "pen 0; select 0", "move 7 7"):
             given = EMF.file(EMF.records(f"line 6 5; rectangle 0 0 6 6; {left}"), 8, HANDLES)
             self.assertTrue(self.check(program, given, (8, 8), BANDS), left)
 
