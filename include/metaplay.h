@@ -56,7 +56,7 @@ enum {
 typedef struct metaplay_answer {
     /* One of the outcomes above. */
     uint32_t outcome;
-    /* If the call was rejected, the fault's code, from 1 to 47 (docs/FAULTS.md). */
+    /* If the call was rejected, the fault's code, from 1 to 47 (FAULTS.md). */
     uint32_t fault;
     /* If `has_record_number`, the number of the record that the fault lies in. The first record has number 0. */
     uint32_t record_number;
@@ -113,7 +113,7 @@ metaplay_answer metaplay_fitted_sides(const uint8_t *file, size_t file_length, u
                                       metaplay_sides *sides);
 
 /*
- * Copies the name of the fault with this code, as in docs/FAULTS.md, to the start of `out`. No zero byte follows it;
+ * Copies the name of the fault with this code, as in FAULTS.md, to the start of `out`. No zero byte follows it;
  * `length` is the name's. METAPLAY_MOST_NAME bytes are enough for each name.
  */
 metaplay_answer metaplay_fault_name(uint32_t code, uint8_t *out, size_t out_length);

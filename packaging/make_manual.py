@@ -87,7 +87,7 @@ def manual(program):
     table, _, more = statuses.partition("\n\n")
     parts.append(".SH EXIT STATUS\n")
     parts += [term(number, " ".join(said.split())) for number, said in re.findall(r"(?ms)^  (\d)  (.*?)(?=^  \d|\Z)", table)]
-    parts.append(paragraph(" ".join(more.split("docs/FAULTS.md")[0].split())))
+    parts.append(paragraph(" ".join(more.split("FAULTS.md")[0].split())))
     parts.append(".SH FAULTS\n")
     parts += [term(name, f"{code}. {said}") for code, name, said in faults()]
     parts.append(".SH SEE ALSO\n.BR ppm (5)\n")

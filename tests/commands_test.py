@@ -329,7 +329,7 @@ class Help(unittest.TestCase):
         for command in ["show", "prepare", "check", "play", "over", "list"]:
             self.assertIn(f"\n  metaplay {command} ".encode(), helped.out)
             self.assertIn(b"Usage: metaplay " + command.encode(), answer(program, [command, "--help"]).out)
-        self.assertIn(b"docs/FAULTS.md", helped.out)
+        self.assertIn(b"FAULTS.md", helped.out)
 
     @for_each_program
     def test_its_statuses_are_those_of_the_readme(self, program):

@@ -5,6 +5,7 @@ import pathlib
 import resource
 import shutil
 import signal
+import stat
 import subprocess
 import tempfile
 import threading
@@ -200,6 +201,11 @@ class PreparedFile(unittest.TestCase):
         self.assertEqual((run.returncode, file.read_bytes()), (0, DOT_CERT))
 
 
+def mode_of(path):
+    """Who may read, write and execute a file."""
+    return stat.S_IMODE(path.stat().st_mode)
+
+
 class StoppedRuns(unittest.TestCase):
     """Runs that are killed before one of their calls that change files (stop_calls.c), each call in turn."""
 
@@ -213,7 +219,8 @@ class StoppedRuns(unittest.TestCase):
         subprocess.run(["cc", "-O2", "-Wall", "-Wextra", "-Werror", "-shared", "-fPIC", "-o", cls.library, source, "-ldl"], check=True)
 
     def stopped(self, program, out, before):
-        """What becomes of an output that was this before, and how many other files are left, of each run that is killed; last of the run that isn't."""
+        """What becomes of an output that was this before, and the modes of other files that are left, of each run that is killed; last of the run that
+        isn't."""
         folder = out.parent
         for number in range(1, 100):
             shutil.rmtree(folder, ignore_errors=True)
@@ -222,7 +229,7 @@ class StoppedRuns(unittest.TestCase):
                 out.write_bytes(before)
             settings = {**os.environ, "LD_PRELOAD": str(self.library), "STOP_CALL": str(number)}
             told = answer(program, ["prepare", SAMPLES / "wheel.wmf", "64", "64", out], env=settings)
-            left = len(set(os.listdir(folder)) - {"out"})
+            left = [mode_of(path) for path in folder.iterdir() if path != out]
             yield told.status, out.read_bytes() if out.exists() else None, left
             if told.status == 0:
                 return
@@ -235,14 +242,17 @@ class StoppedRuns(unittest.TestCase):
         for before in [OLD, None]:
             runs = list(self.stopped(program, self.folder / "runs/out", before))
             killed = [run for run in runs if run[0] == -signal.SIGKILL]
-            self.assertEqual(runs[-1], (0, new, 0))
+            self.assertEqual(runs[-1], (0, new, []))
             self.assertEqual(len(killed), len(runs) - 1)
             # At least the calls that open FILE, open a new file, write it, and rename it.
             self.assertGreaterEqual(len(killed), 4)
             # Nothing is renamed before the last of these calls, and a killed run leaves at most its own file.
             self.assertEqual({out for _, out, _ in killed}, {before})
-            self.assertLessEqual({left for _, _, left in killed}, {0, 1})
-            self.assertEqual(killed[-1][2], 1)
+            self.assertLessEqual({len(left) for _, _, left in killed}, {0, 1})
+            self.assertEqual(len(killed[-1][2]), 1)
+            # Of an old file's place, the new one is closed to others until it has the old one's mode.
+            modes = {mode for _, _, left in killed for mode in left}
+            self.assertEqual(modes, {0o600, mode_of(whole)} if before else {mode_of(whole)})
 
 
 if __name__ == "__main__":

@@ -20,6 +20,9 @@ HELD = SAMPLES / "held.wmf"
 
 HELD_LINE = b"metaplay: HeldObject at record 5\n"
 
+# What `check-file` writes where the program rejects that file without a word.
+NO_FAULT = b'{"accepted":false,"file":"held file.wmf","said":"metaplay prepare reported no fault"}\n'
+
 
 def has_command(name):
     """Whether the built program has a command."""
@@ -130,6 +133,10 @@ class Recipes(unittest.TestCase):
         self.assertEqual((status, out, err[:7]), (1, b"", b"ERROR: "))
         status, out, _ = self.run_words(*job, "dot.wmf", **settings)
         self.assertEqual((status, out[:17]), (0, b"P6\n2400 2400\n255\n"))
+        # A side isn't taken from a file's name.
+        (self.folder / "metaplay-side=4").write_bytes(b"")
+        told = self.run_words(*job[:-1], "metaplay-side=*", "dot.wmf", **settings)
+        self.assertEqual(told, (1, b"", b"ERROR: metaplay-side is a number of pixels\n"))
 
     @needs("jq", "xargs", "find")
     def test_a_folder_side_by_side(self):
@@ -180,6 +187,7 @@ class Recipes(unittest.TestCase):
         self.assertEqual(self.run_words(*words, PATH=str(tools)), (1, b"", b"check-file: jq is missing\n"))
         status, out, _ = self.run_words(*words, METAPLAY="true")
         self.assertEqual((status, json.loads(out)["said"]), (1, "metaplay check wrote no report"))
+        self.assertEqual(self.run_words(RECIPES / "check-file", "64", "64", "held file.wmf", METAPLAY="false")[:2], (1, NO_FAULT))
         # A certificate that isn't a plain file is neither read nor written.
         for make in (os.mkfifo, lambda path: path.symlink_to(self.folder / "elsewhere")):
             (self.folder / "dot.wmf.mpc").unlink()
@@ -231,6 +239,15 @@ class Recipes(unittest.TestCase):
         for word in ("--literal-pathspecs", "--glob-pathspecs", "--no-pager"):
             status, _, err = self.run_words(*git, word, "commit", "-q", "-m", "seven")
             self.assertEqual((status != 0, b"pre-commit: rejected: link.wmf\n" in err), (True, True), err)
+        # All that git has, of which links and files that aren't added are no part; the folder at hand doesn't matter.
+        self.assertEqual(self.run_words(RECIPES / "pre-commit", "--all")[0], 1)
+        self.run_words(*git, "rm", "-q", "--cached", "link.wmf")
+        (self.folder / "below").mkdir()
+        self.assertEqual(self.run_words("sh", "-c", f"cd below && {RECIPES / 'pre-commit'} --all"), (0, b"", b""))
+        # Where git lists no file because it fails, so does the script.
+        for words in ([], ["--all"]):
+            status, _, err = self.run_words(RECIPES / "pre-commit", *words, GIT_DIR="/no folder")
+            self.assertEqual((status, bool(err)), (1, True))
         self.assertEqual(self.run_words(RECIPES / "pre-commit", "dot.wmf", "held file.wmf", "dot.wmf")[0], 1)
 
 

@@ -45,7 +45,7 @@ Exit status:
   4  out of memory
 
 The fault is on standard error; check, list and info print it on standard
-output. docs/FAULTS.md explains each fault and what to do about it.";
+output. FAULTS.md explains each fault and what to do about it.";
 
 /// The program's command line.
 pub(crate) fn metaplay<'a>(alloc: Global) -> Result<Command<'a>, AllocError>

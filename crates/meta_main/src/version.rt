@@ -2,4 +2,4 @@
 
 /// The line that `--version` writes: the version, and the checksum of all sources but this one.
 pub(crate) const VERSION: &str =
-    "metaplay 1.0.0 (sources 7e556a84f4da2e863e0793e5494c7b48791da4041448d162f558efb1eb86df15)\n";
+    "metaplay 1.0.0 (sources c7137e8067015b67af2cae21796a36e9b05a8ce2abaf271330e47d0aff76e52a)\n";
