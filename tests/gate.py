@@ -33,7 +33,7 @@ PROVED = re.compile(r"rt: (\w+) (?:proved|is kept: .*)")
 CI_MEMORY = 10_000_000_000
 
 # By how much the edits give way.
-NICENESS = 10
+NICENESS = 19
 
 # What records for the launcher which sources the program was built from.
 RECORD = edits.ROOT / "launcher/record"

@@ -2,4 +2,4 @@
 
 /// The line that `--version` writes: the version, and the checksum of all sources but this one.
 pub(crate) const VERSION: &str =
-    "metaplay 1.0.0 (sources c7137e8067015b67af2cae21796a36e9b05a8ce2abaf271330e47d0aff76e52a)\n";
+    "metaplay 1.0.0 (sources 5d4d522aa9ce8e809b4224c5f66ce83ca02b0c8f503a9c018e86c03d25b1497e)\n";
