@@ -1,4 +1,5 @@
 pub mod MixLemmas
+pub mod HatchLemmas
 pub mod StripLemmas
 pub mod LinePixelLemmas
 pub mod LineStepLemmas
@@ -31,4 +32,5 @@ pub mod PaintedFigureLemmas
 pub mod WorkedPaths
 pub mod WorkedFigures
 pub mod WideSpanLemmas
+pub mod FillSpanLemmas
 pub mod MaskSpanLemmas
