@@ -6,20 +6,17 @@ without what it was refused; to nothing else, and to no half of an image.
 
 import itertools
 import json
-import os
 import pathlib
-import re
-import subprocess
-import tempfile
 import unittest
 
 from answers import refused, shown
-from built import CRATES, DOT, DOT_IMAGE, PROGRAMS, SAMPLES, Answer, answer
+from built import DOT, DOT_IMAGE, PROGRAMS, SAMPLES, Answer, answer
 from command_inputs import DOT_LINES, TRIANGLE, TRIANGLE_CERT
 from commands_test import DOT_CERT
 from metafile.bitmaps import QUAD, QUAD_ROWS
 from metafile.blits import MASKED, PATCOPY, PATINVERT, SRCCOPY
 from metafile.scripts import EMF, FORMS, HANDLES, SIDE, WMF
+from refused_growth import RefusedGrowthTest
 from script_answers import pixels
 
 OUT_OF_MEMORY = Answer(4, b"", b"metaplay: OutOfMemory\n")
@@ -132,33 +129,8 @@ REPEATED_PATHS = [
 ]
 
 
-class RefusedGrowth(unittest.TestCase):
-    @classmethod
-    def setUpClass(cls):
-        room = tempfile.TemporaryDirectory()
-        cls.addClassCleanup(room.cleanup)
-        cls.library = f"{room.name}/fail_growth.so"
-        cls.mark = pathlib.Path(f"{room.name}/refused")
-        source = pathlib.Path(__file__).with_name("fail_growth.c")
-        build = ["cc", "-O2", "-Wall", "-Wextra", "-Werror", "-shared", "-fPIC"]
-        subprocess.run([*build, "-o", cls.library, source, "-ldl"], check=True)
-
-    def under_refusals(self, program, words, given=b""):
-        """What the program answers where its first growth is refused, and its second, and so on to
-        its last."""
-        number = 0
-        while True:
-            number += 1
-            self.mark.unlink(missing_ok=True)
-            refusal = {
-                "LD_PRELOAD": self.library,
-                "REFUSE_GROWTH": str(number),
-                "REFUSED_GROWTH": str(self.mark),
-            }
-            answered = answer(program, words, given, env={**os.environ, **refusal})
-            if not self.mark.exists():
-                return
-            yield number, answered
+class RefusedGrowth(RefusedGrowthTest):
+    """The commands."""
 
     def test_the_program_answers_a_refusal_or_as_ever(self):
         # The program of the other compiler is of the same code: it has the lines without states.
@@ -280,20 +252,6 @@ class RefusedGrowth(unittest.TestCase):
                 calls = self.calls_for_memory(program, ["4", "4"], few)
                 self.assertEqual(self.calls_for_memory(program, ["4", "4"], many), calls)
                 self.assertEqual(self.calls_for_memory(program, ["300", "300"], few), calls)
-
-    def test_the_crates_answer_a_refusal_or_as_ever(self):
-        # Tests with this name take either answer of the calls that they make, and no third one.
-        tried = []
-        for program in sorted(CRATES.glob("*/out/*_tests")):
-            listed = answer(program, ["--list"]).out.decode()
-            for name in re.findall(r"(\S*_under_failed_growth): test", listed):
-                tried.append(name)
-                answers = list(self.under_refusals(program, [name]))
-                self.assertTrue(answers, f"{name} takes no memory")
-                for number, answered in answers:
-                    with self.subTest(test=name, number=number):
-                        self.assertEqual(answered.status, 0, answered.err)
-        self.assertGreaterEqual(len(tried), 6, tried)
 
 
 if __name__ == "__main__":

@@ -5,8 +5,8 @@
     gate.py --anew    proves everything, and tries every edit
     gate.py --record  the same, and if all passed, puts every crate on record (edits/judged.json)
 
-It runs `rt ci`, beside it tries the edits of each crate as soon as the libraries below the crate are proved, and then runs the
-tests over the built programs, beside the edits that are left.
+It runs `rt ci`. Beside it, it tries the edits of each crate as soon as the libraries below the crate are proved, and begins the tests
+over the built programs as soon as those are there.
 
 `rt ci` proves crates in a chain, and leaves processors idle: the edits take those. They are the less urgent work, and give way to it.
 Where something was built before, `rt ci` has its old libraries back in the end; the edits then wait for that, and have them built anew.
@@ -28,6 +28,9 @@ import run
 
 # A crate is proved by this run, or an earlier one proved the same files on this machine.
 PROVED = re.compile(r"rt: (\w+) (?:proved|is kept: .*)")
+
+# What most tests run, by the names of crates: `rt ci` builds a program when it has proved it. The library for C is built by a test.
+PROGRAMS = {"meta_main", "test_requests", "example_calls", "metaplay_c"}
 
 # The memory that `rt ci` may take, in bytes.
 CI_MEMORY = 10_000_000_000
@@ -75,14 +78,42 @@ class Beside:
         """Has another pool try what is ready too."""
         self.begun += [pool.submit(self.try_next) for _ in self.ready]
 
-    def follow(self, lines):
-        """Passes on lines of `rt ci`, and begins what each lets begin."""
-        for line in lines:
-            print(line, end="", flush=True)
-            found = PROVED.fullmatch(line.strip())
-            if found:
-                self.proved.add(found[1])
-                self.begin()
+    def prove(self, name):
+        """Begins what may begin now that this crate is proved."""
+        self.proved.add(name)
+        self.begin()
+
+
+class Tests:
+    """The tests over the built programs. Most begin as soon as the programs are there, the others (run.LAST) when all is built."""
+
+    def __init__(self, sources, pool):
+        """Waits for the programs."""
+        self.sources, self.pool, self.lacking, self.most = sources, pool, set(PROGRAMS), None
+
+    def prove(self, name):
+        """Begins most of them if this crate was the last that they need."""
+        self.lacking.discard(name)
+        if not self.lacking and not self.most:
+            self.most = self.pool.submit(self.try_most)
+
+    def try_most(self):
+        """Records for the launcher what the program was built from, runs them, and answers the status."""
+        return recorded(0, self.sources) or run.run_all(run.names() - run.LAST)
+
+    def status(self):
+        """The status of all of them, when all is built."""
+        last = run.run_all(run.LAST)
+        return (self.most.result() if self.most else 1) or last
+
+
+def proved_in(lines):
+    """Passes on lines of `rt ci`, and gives the name of each crate that one says is proved."""
+    for line in lines:
+        print(line, end="", flush=True)
+        found = PROVED.fullmatch(line.strip())
+        if found:
+            yield found[1]
 
 
 class Processors(NamedTuple):
@@ -146,16 +177,19 @@ def lanes(number):
 
 
 def beside(clock, words, parts):
-    """Runs `rt ci` and then the tests with these parts beside them, and answers the status. Parts get the memory of `rt ci` when that has ended."""
+    """Runs `rt ci` with the tests and these parts beside it, and answers the status. Parts get the memory of `rt ci` when that has ended."""
     how = {"stdout": subprocess.PIPE, "text": True, "errors": "replace", "env": {**os.environ, "PYTHONUNBUFFERED": "1"}}
-    number, sources = edits.lanes(CI_MEMORY), sources_sum()
-    with subprocess.Popen(words, **how) as ci, lanes(number) as pool, lanes(max(1, edits.rt.processors() - number)) as more:
+    number, alone = edits.lanes(CI_MEMORY), ThreadPoolExecutor(1)
+    trying_tests = Tests(sources_sum(), alone)
+    with subprocess.Popen(words, **how) as ci, alone, lanes(number) as pool, lanes(max(1, edits.rt.processors() - number)) as more:
         trying = Beside(parts, pool)
-        trying.follow(ci.stdout)
-        status = say_status(clock, "rt ci", recorded(ci.wait(), sources))
+        for name in proved_in(ci.stdout):
+            trying.prove(name)
+            trying_tests.prove(name)
+        status = say_status(clock, "rt ci", ci.wait())
         if not status and number < edits.lanes():
             trying.share(more)
-        status = status or say_status(clock, "tests", run.run_all())
+        status = status or say_status(clock, "tests", trying_tests.status())
         if status:
             more.shutdown(wait=False, cancel_futures=True)
             pool.shutdown(cancel_futures=True)

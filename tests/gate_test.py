@@ -11,7 +11,7 @@ from unittest import mock
 
 import edits
 import gate
-from gate import Beside, Clock, Processors
+from gate import Beside, Clock, Processors, Tests, proved_in
 from run import judged
 
 
@@ -44,6 +44,7 @@ class Pool:
     def submit(self, trying):
         """Keeps what it has to try."""
         self.given.append(trying)
+        return trying
 
 
 LOW = Crate("low")
@@ -59,7 +60,8 @@ class BesideTest(unittest.TestCase):
         pool, said = Pool(), io.StringIO()
         with contextlib.redirect_stdout(said):
             beside = Beside([Part("low 1", LOW), Part("middle 1", MIDDLE), Part("high 1", HIGH), Part("high 2", HIGH)], pool, lambda part: part.name)
-            beside.follow(line + "\n" for line in lines)
+            for name in proved_in(line + "\n" for line in lines):
+                beside.prove(name)
         self.assertEqual(said.getvalue(), "".join(line + "\n" for line in lines))
         return [trying() for trying in pool.given], [part.name for part in beside.waiting]
 
@@ -91,13 +93,14 @@ class BesideTest(unittest.TestCase):
 class WholeTest(unittest.TestCase):
     """The steps beside each other, without the toolchain."""
 
-    def ended(self, proved, failing=(), tests=0, record="true"):
-        """The status of a gate whose first step proves these crates, whose tests have this status, and of whose parts these fail; and what it said."""
+    def ended(self, proved, failing=(), tests=(0, 0), record="true"):
+        """The status of a gate whose first step proves these crates, whose tests have these statuses, and of whose parts these fail; and what it said."""
         parts, said = [Part("low 1", LOW), Part("middle 1", MIDDLE), Part("high 1", HIGH)], io.StringIO()
         trying = lambda part: [f"{part.name} went wrong"] * (part.name in failing)
         with contextlib.redirect_stdout(said), contextlib.ExitStack() as stack:
             stack.enter_context(mock.patch.object(Beside.__init__, "__defaults__", (trying,)))
-            stack.enter_context(mock.patch.object(gate.run, "run_all", lambda: tests))
+            stack.enter_context(mock.patch.object(gate.run, "run_all", lambda names: tests[names == gate.run.LAST]))
+            stack.enter_context(mock.patch.object(gate, "PROGRAMS", {"low"}))
             stack.enter_context(mock.patch.object(edits, "lanes", lambda taken=0: 1 if taken else 2))
             stack.enter_context(mock.patch.object(gate, "RECORD", record))
             words = ["printf", "".join(f"rt: {name} proved\n" for name in proved)]
@@ -121,7 +124,20 @@ class WholeTest(unittest.TestCase):
             self.assertEqual(self.ended(["low", "middle", "high"], record=record)[0], 1)
 
     def test_it_fails_where_the_tests_do(self):
-        self.assertEqual(self.ended(["low", "middle", "high"], tests=1)[0], 1)
+        for tests in ((1, 0), (0, 1), (1, 1)):
+            with self.subTest(tests=tests):
+                self.assertEqual(self.ended(["low", "middle", "high"], tests=tests)[0], 1)
+
+    def test_most_tests_begin_once_when_all_programs_are_built(self):
+        pool = Pool()
+        with mock.patch.object(gate, "PROGRAMS", {"low", "high"}):
+            tests = Tests("sources", pool)
+            begun = [(tests.prove(name), len(pool.given))[1] for name in ("middle", "low", "high", "other", "low")]
+        self.assertEqual(begun, [0, 0, 1, 1, 1])
+
+    def test_it_fails_where_the_programs_are_not_built(self):
+        status, said = self.ended(["middle", "high"])
+        self.assertEqual((status, "tests FAILED" in said), (1, True))
 
 
 class SaidTest(unittest.TestCase):

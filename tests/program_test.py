@@ -1,6 +1,7 @@
 """The built program on what only a machine has: words that are no text, files, pipes, full disks and
 little memory."""
 
+import itertools
 import os
 import resource
 import shutil
@@ -68,6 +69,13 @@ class Program(unittest.TestCase):
             ran = subprocess.run(words, stdin=given, capture_output=True, check=False)
             self.assertEqual(os.lseek(given.fileno(), 0, os.SEEK_CUR), 0)
         self.assertEqual(ran.stdout, DOT_IMAGE)
+
+    @for_each_program
+    def test_a_file_that_ends_next_to_a_piece_is_read_whole(self, program):
+        # An input is read in pieces of 64 KiB.
+        for piece, beside in itertools.product((1, 2, 64), (-1, 0, 1)):
+            given = DOT.ljust(65_536 * piece + beside, b"\x0e")
+            self.assertEqual(answer(program, ["show", "stdin", "4", "4"], given), Answer(0, DOT_IMAGE, b""), len(given))
 
     @for_each_program
     def test_a_long_file_is_refused_and_not_cut(self, program):

@@ -12,6 +12,9 @@ from typing import NamedTuple
 
 TESTS = pathlib.Path(__file__).resolve().parent
 
+# Those that need the programs of the crates' tests, which `rt ci` builds last.
+LAST = {"crate_tests_growth_test"}
+
 RAN = re.compile(r"^Ran (\d+) tests? in", re.MULTILINE)
 
 
@@ -39,15 +42,21 @@ def run(file):
     return judged(file.stem, ran.returncode, ran.stdout, time.monotonic() - start)
 
 
-def run_all():
-    """Runs all files, says what came of each, and answers the status."""
+def run_all(names=None):
+    """Runs these files, or all, says what came of each, and answers the status."""
+    files = [it for it in sorted(TESTS.glob("*_test.py")) if names is None or it.stem in names]
     with ThreadPoolExecutor(len(os.sched_getaffinity(0))) as pool:
-        ended = list(pool.map(run, sorted(TESTS.glob("*_test.py"))))
+        ended = list(pool.map(run, files))
     for it in ended:
         print(f"{it.name}: {it.count} tests in {it.seconds:.0f} s" if it.is_well else f"{it.said}\n{it.name}: NOT PASSED", flush=True)
     failed = sum(not it.is_well for it in ended)
     print(f"{sum(it.count for it in ended)} tests ran, {failed} of {len(ended)} files failed", flush=True)
     return 1 if failed else 0
+
+
+def names():
+    """The names of all files."""
+    return {it.stem for it in TESTS.glob("*_test.py")}
 
 
 if __name__ == "__main__":

@@ -124,7 +124,7 @@ fn an_input_has_at_most_268435456_bytes(rt: HostRuntime) -> Result<(), Fail> {
 }
 
 /// This many bytes, in a pattern whose period isn't a power of two.
-fn pattern(alloc: Global, length: usize) -> Result<Vec<u8>, AllocError> {
+pub(crate) fn pattern(alloc: Global, length: usize) -> Result<Vec<u8>, AllocError> {
     let mut bytes = Vec::new(alloc);
     for k in 0..length {
         bytes.push((k % 251) as u8)?;

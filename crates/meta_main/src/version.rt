@@ -2,4 +2,4 @@
 
 /// The line that `--version` writes: the version, and the checksum of all sources but this one.
 pub(crate) const VERSION: &str =
-    "metaplay 1.0.0 (sources 5d4d522aa9ce8e809b4224c5f66ce83ca02b0c8f503a9c018e86c03d25b1497e)\n";
+    "metaplay 1.0.0 (sources 0bdd1684f97c5bcc5755cbe40c1f184af9b69d251d009e6b164c2e134ddaa11c)\n";

@@ -93,7 +93,7 @@ fn a_full_writer_has_a_prefix_of_the_rows(rt: HostRuntime) -> Result<(), Fail> {
     Ok(())
 }
 
-// tests/failed_growth_test.py runs this once more for each allocation that can fail.
+// tests/crate_tests_growth_test.py runs this once more for each allocation that can fail.
 #[test]
 fn a_band_under_failed_growth(rt: HostRuntime) -> Result<(), Fail> {
     match Canvas::band(rt.alloc(), 2, 3, 2, GREY) {

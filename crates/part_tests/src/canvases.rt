@@ -170,7 +170,7 @@ fn a_large_piece_goes_out_byte_by_byte(rt: HostRuntime) -> Result<(), Fail> {
     Ok(())
 }
 
-// tests/failed_growth_test.py runs this once more for each allocation that can fail.
+// tests/crate_tests_growth_test.py runs this once more for each allocation that can fail.
 #[test]
 fn a_canvas_under_failed_growth(rt: HostRuntime) -> Result<(), Fail> {
     match Canvas::new(rt.alloc(), 2, 3, RED) {

@@ -14,7 +14,7 @@ fn errors_display_their_names(rt: HostRuntime) -> Result<(), Fail> {
     Ok(())
 }
 
-// tests/failed_growth_test.py runs this once more for each allocation that can fail.
+// tests/crate_tests_growth_test.py runs this once more for each allocation that can fail.
 #[test]
 fn an_image_under_failed_growth(rt: HostRuntime) -> Result<(), Fail> {
     match Canvas::from_ppm(rt.alloc(), b"P6 1 2 255 abcdef".as_slice()) {

@@ -4,7 +4,7 @@ use crate::comparing::same;
 use span_fill::{OutOfMemory, RowBuf};
 use std::test::Fail;
 
-// tests/failed_growth_test.py runs this once more for each allocation that can fail. After a failure the buffer is
+// tests/crate_tests_growth_test.py runs this once more for each allocation that can fail. After a failure the buffer is
 // unchanged, and a second call allocates the memory.
 #[test]
 fn capacity_is_reserved_under_failed_growth(rt: HostRuntime) -> Result<(), Fail> {

@@ -7,7 +7,7 @@ use std::test::Fail;
 
 const FONT: Object<'static> = Object::Font;
 
-// tests/failed_growth_test.py runs this once more for each allocation that can fail.
+// tests/crate_tests_growth_test.py runs this once more for each allocation that can fail.
 #[test]
 fn a_create_under_failed_growth(rt: HostRuntime) -> Result<(), Fail> {
     let mut table = LowestFree::new(rt.alloc());
@@ -29,7 +29,7 @@ fn a_create_under_failed_growth(rt: HostRuntime) -> Result<(), Fail> {
     Ok(())
 }
 
-// tests/failed_growth_test.py runs this once more for each allocation that can fail.
+// tests/crate_tests_growth_test.py runs this once more for each allocation that can fail.
 #[test]
 fn a_given_index_under_failed_growth(rt: HostRuntime) -> Result<(), Fail> {
     let mut table = Given::new(rt.alloc(), 1000);
@@ -46,7 +46,7 @@ fn a_given_index_under_failed_growth(rt: HostRuntime) -> Result<(), Fail> {
     Ok(())
 }
 
-// tests/failed_growth_test.py runs this once more for each allocation that can fail.
+// tests/crate_tests_growth_test.py runs this once more for each allocation that can fail.
 #[test]
 fn a_reserve_under_failed_growth(rt: HostRuntime) -> Result<(), Fail> {
     let mut table = Given::new(rt.alloc(), 500);

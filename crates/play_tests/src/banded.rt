@@ -98,7 +98,7 @@ fn a_writer_that_counts_has_one_fault_where_it_is_full(rt: HostRuntime) -> Resul
     Ok(())
 }
 
-// tests/failed_growth_test.py runs this once more for each allocation that can fail.
+// tests/crate_tests_growth_test.py runs this once more for each allocation that can fail.
 #[test]
 fn bands_under_failed_growth(rt: HostRuntime) -> Result<(), Fail> {
     let Ok(cleared) = check(rt.alloc(), TRI, TRI_CERT) else {

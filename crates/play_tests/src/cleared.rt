@@ -56,7 +56,7 @@ fn play_white(alloc: Global, file: &[u8], width: u32, height: u32) -> Result<Can
     }
 }
 
-// tests/failed_growth_test.py runs this once more for each allocation that can fail.
+// tests/crate_tests_growth_test.py runs this once more for each allocation that can fail.
 #[test]
 fn a_dot_under_failed_growth(rt: HostRuntime) -> Result<(), Fail> {
     match play_white(rt.alloc(), DOT, 4, 4) {

@@ -12,7 +12,7 @@ const FONT: Op<'static> = Op::Create {
     object: Object::Font,
 };
 
-// tests/failed_growth_test.py runs this once more for each allocation that can fail. After a failure, the machine is
+// tests/crate_tests_growth_test.py runs this once more for each allocation that can fail. After a failure, the machine is
 // as it was before the step.
 #[test]
 fn steps_under_failed_growth(rt: HostRuntime) -> Result<(), Fail> {
@@ -33,7 +33,7 @@ fn steps_under_failed_growth(rt: HostRuntime) -> Result<(), Fail> {
     Ok(())
 }
 
-// tests/failed_growth_test.py runs this once more for each allocation that can fail.
+// tests/crate_tests_growth_test.py runs this once more for each allocation that can fail.
 #[test]
 fn reserved_steps_under_failed_growth(rt: HostRuntime) -> Result<(), Fail> {
     let opened = open_file(DOT)?;

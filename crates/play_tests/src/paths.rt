@@ -29,7 +29,7 @@ fn pieces_are_borrowed_until_the_next_accepted_step(rt: HostRuntime) -> Result<(
     Ok(())
 }
 
-// tests/failed_growth_test.py runs this once more for each allocation that can fail.
+// tests/crate_tests_growth_test.py runs this once more for each allocation that can fail.
 #[test]
 fn path_steps_under_failed_growth(rt: HostRuntime) -> Result<(), Fail> {
     let opened = open_file(DOT)?;
@@ -47,7 +47,7 @@ fn path_steps_under_failed_growth(rt: HostRuntime) -> Result<(), Fail> {
     Ok(())
 }
 
-// tests/failed_growth_test.py runs this once more for each allocation that can fail.
+// tests/crate_tests_growth_test.py runs this once more for each allocation that can fail.
 #[test]
 fn reserved_path_steps_under_failed_growth(rt: HostRuntime) -> Result<(), Fail> {
     let opened = open_file(DOT)?;
