@@ -35,6 +35,12 @@ class Sides(ctypes.Structure):
     _fields_ = [("width", ctypes.c_uint32), ("height", ctypes.c_uint32)]
 
 
+class Terms(ctypes.Structure):
+    """What a certificate says of every play, as `metaplay_terms`."""
+
+    _fields_ = [("writes", ctypes.c_uint64), ("max_width", ctypes.c_uint32), ("max_height", ctypes.c_uint32)]
+
+
 class Rejected(Exception):
     """The file, the certificate or the size is rejected."""
 
@@ -49,6 +55,7 @@ FUNCTIONS = {
     "metaplay_prepare": [*BYTES, *SIZE, *BUFFER],
     "metaplay_play": [*BYTES, *BYTES, *SIZE, *BUFFER],
     "metaplay_fitted_sides": [*BYTES, *SIZE, ctypes.POINTER(Sides)],
+    "metaplay_certificate_terms": [*BYTES, ctypes.POINTER(Terms)],
     "metaplay_fault_name": [ctypes.c_uint32, *BUFFER],
 }
 
@@ -88,6 +95,12 @@ class Metaplay:
         sides = Sides()
         self.demand(self.library.metaplay_fitted_sides(file, len(file), width, height, ctypes.byref(sides)))
         return sides.width, sides.height
+
+    def certificate_terms(self, certificate):
+        """The most pixels that a play by this certificate writes, and the greatest width and height of its surface."""
+        terms = Terms()
+        self.demand(self.library.metaplay_certificate_terms(certificate, len(certificate), ctypes.byref(terms)))
+        return terms.writes, terms.max_width, terms.max_height
 
     def fault_name(self, code):
         """The name of the fault with this code, or None if there is no such fault."""

@@ -74,9 +74,19 @@ typedef struct metaplay_sides {
     uint32_t height;
 } metaplay_sides;
 
+/* What a certificate says of every play. */
+typedef struct metaplay_terms {
+    /* The most pixels that a play writes. A pixel that is written twice counts twice. */
+    uint64_t writes;
+    /* The greatest width and height of a surface, in pixels. */
+    uint32_t max_width;
+    uint32_t max_height;
+} metaplay_terms;
+
 /*
  * Checks a certificate against a file. If it is accepted (METAPLAY_DONE), the file plays without a fault at every size
- * up to the certificate's bound, and writes at most the certified number of pixels.
+ * up to the certificate's bound, and writes at most the certified number of pixels. That number and the bound are read by
+ * `metaplay_certificate_terms`; the time of a play grows with both, so bound them if you play files from strangers.
  */
 metaplay_answer metaplay_check(const uint8_t *file, size_t file_length, const uint8_t *certificate,
                                size_t certificate_length);
@@ -111,6 +121,13 @@ metaplay_answer metaplay_play(const uint8_t *file, size_t file_length, const uin
  */
 metaplay_answer metaplay_fitted_sides(const uint8_t *file, size_t file_length, uint32_t width, uint32_t height,
                                       metaplay_sides *sides);
+
+/*
+ * Reads what a certificate says of every play. Only the certificate is read, and nothing is allocated: it holds for a
+ * file if `metaplay_check` accepts the certificate for that file.
+ */
+metaplay_answer metaplay_certificate_terms(const uint8_t *certificate, size_t certificate_length,
+                                           metaplay_terms *terms);
 
 /*
  * Copies the name of the fault with this code, as in FAULTS.md, to the start of `out`. No zero byte follows it;

@@ -118,7 +118,7 @@ _metaplay() {{
     local word=${{COMP_WORDS[COMP_CWORD]}} options=""
     COMPREPLY=()
     if [ "$COMP_CWORD" -eq 1 ]; then
-        mapfile -t COMPREPLY < <(compgen -W "{" ".join(it.name for it in known)} help --help --version" -- "$word")
+        mapfile -t COMPREPLY < <(compgen -W "{" ".join(it.name for it in known)} help --help --version -V" -- "$word")
         return
     fi
     case ${{COMP_WORDS[1]}} in
@@ -152,7 +152,7 @@ if (( CURRENT == 2 )); then
     commands=(
 {described}    )
     _describe command commands
-    compadd -- help --help --version
+    compadd -- help --help --version -V
     return
 fi
 (( CURRENT-- ))
@@ -165,7 +165,7 @@ case $words[1] in
 def fish(program):
     """The completions for fish."""
     lines = ["# Completions of metaplay for fish. Made by packaging/make_manual.py.\n"]
-    lines += [f"complete -c metaplay -n __fish_use_subcommand -f -a '{word}'\n" for word in ("help", "--help", "--version")]
+    lines += [f"complete -c metaplay -n __fish_use_subcommand -f -a '{word}'\n" for word in ("help", "--help", "--version", "-V")]
     for it in commands(program):
         lines.append(f"complete -c metaplay -n __fish_use_subcommand -f -a {it.name} -d {it.about!r}\n")
         for name, about, takes in long_options(it):

@@ -3,7 +3,7 @@ _metaplay() {
     local word=${COMP_WORDS[COMP_CWORD]} options=""
     COMPREPLY=()
     if [ "$COMP_CWORD" -eq 1 ]; then
-        mapfile -t COMPREPLY < <(compgen -W "show prepare check play over list info help --help --version" -- "$word")
+        mapfile -t COMPREPLY < <(compgen -W "show prepare check play over list info help --help --version -V" -- "$word")
         return
     fi
     case ${COMP_WORDS[1]} in

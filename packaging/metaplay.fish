@@ -2,6 +2,7 @@
 complete -c metaplay -n __fish_use_subcommand -f -a 'help'
 complete -c metaplay -n __fish_use_subcommand -f -a '--help'
 complete -c metaplay -n __fish_use_subcommand -f -a '--version'
+complete -c metaplay -n __fish_use_subcommand -f -a '-V'
 complete -c metaplay -n __fish_use_subcommand -f -a show -d 'Plays a metafile on white and writes the image to standard output'
 complete -c metaplay -n '__fish_seen_subcommand_from show' -l fit -d "Keep the picture's proportion; W and H are then the most"
 complete -c metaplay -n '__fish_seen_subcommand_from show' -l help -d 'Print help'

@@ -132,6 +132,13 @@ def fault_name(code, length):
     return numbers(library().library.metaplay_fault_name(code, *buffer.words())), buffer
 
 
+def terms_of(certificate):
+    """The numbers of the answer to reading what a certificate says of every play, and these numbers: writes, width and height."""
+    terms = SHOW.Terms(5, 7, 9)
+    answer = library().library.metaplay_certificate_terms(certificate, len(certificate), ctypes.byref(terms))
+    return numbers(answer), (terms.writes, terms.max_width, terms.max_height)
+
+
 def fitted(given, width, height):
     """The numbers of the answer to finding the sides that fit a frame, and the sides."""
     sides = SHOW.Sides(7, 9)

@@ -12,7 +12,7 @@ import tempfile
 import unittest
 
 from built import DOT, PROGRAMS, ROOT, SAMPLES, Answer, answer
-from c_library import EXAMPLES, SHOW, STRICT, check, compiled, fault_name, fitted, folder, library, linked_show, loading_show, plain, play, prepare, rejected
+from c_library import EXAMPLES, SHOW, STRICT, check, compiled, fault_name, fitted, folder, library, linked_show, loading_show, plain, play, prepare, rejected, terms_of
 from command_inputs import FAR, NOTED, NOTED_CERT, NOTHING, NOTHING_CERT, TRIANGLE, TRIANGLE_CERT, changed
 from commands_test import DOT_CERT
 from metafile.fields import i16, u32
@@ -239,6 +239,15 @@ class Calls(unittest.TestCase):
             self.assertEqual(fitted(wide, *sides), (plain(SHOW.DONE), fit))
         for given, fault in ((b"", "NotMetafile"), (DOT[:30], "ShortHeader"), (placeable_file([WMF_END], right=i16(0)), "NoFrame")):
             self.assertEqual(fitted(given, 9, 9), (rejected(CODES[fault]), (7, 9)))
+
+    def test_the_terms_are_those_of_the_certificate(self):
+        # The greatest numbers that a certificate may have, in its head; the triangle's certificate has the entry of one drawing.
+        head = b"MPC1" + u32(8192, 4096) + u32(5, 16384) + u32(0, 0, 0, 0, 0)
+        for certificate, terms in ((head, (16384 * 2**32 + 5, 8192, 4096)), (DOT_CERT, (16, 4, 4)), (TRIANGLE_CERT, (32, 4, 4))):
+            self.assertEqual(terms_of(certificate), (plain(SHOW.DONE), terms))
+        faults = ((b"", "NotCertificate"), (DOT_CERT[:39], "ShortCertificate"), (DOT_CERT + b"\0", "TrailingBytes"), (changed(DOT_CERT, 4, u32(0)), "BadBound"))
+        for certificate, fault in faults:
+            self.assertEqual(terms_of(certificate), (rejected(CODES[fault]), (5, 7, 9)))
 
     def test_each_fault_has_its_name(self):
         self.assertEqual(sorted(CODES.values()), list(range(1, 48)))

@@ -35,6 +35,17 @@ int fchmod(int file, mode_t mode)
 }
 """
 
+# A function in place of the C library's fsync(2): the disk turns out to be full only now, as a quota of NFS may.
+IS_FULL_AT_LAST = b"""
+#include <errno.h>
+int fsync(int file)
+{
+    (void)file;
+    errno = EDQUOT;
+    return -1;
+}
+"""
+
 # So many bytes a run may write into a file, where that is limited.
 FEW = 1000
 
@@ -55,6 +66,28 @@ class PreparedFile(unittest.TestCase):
     def prepare(self, program, out, given=DOT, **more):
         """What a program answers that prepares a certificate of standard input at 4 by 4."""
         return answer(program, ["prepare", "stdin", "4", "4", out], given, **more)
+
+    def preloading(self, source):
+        """An environment in which a program loads a library of this source."""
+        room = tempfile.TemporaryDirectory()
+        self.addCleanup(room.cleanup)
+        library = f"{room.name}/preloaded.so"
+        subprocess.run(["cc", "-shared", "-fPIC", "-o", library, "-x", "c", "-"], input=source, check=True)
+        return {**os.environ, "LD_PRELOAD": library}
+
+    @for_each_program
+    def test_a_file_that_does_not_reach_the_disk_is_not_renamed(self, program):
+        settings = self.preloading(IS_FULL_AT_LAST)
+        self.out.unlink(missing_ok=True)
+        self.assertEqual(self.prepare(program, self.out, env=settings), CANNOT_WRITE)
+        self.assertEqual(self.names(), [])
+        self.out.write_bytes(OLD)
+        self.assertEqual(self.prepare(program, self.out, env=settings), CANNOT_WRITE)
+        self.assertEqual((self.names(), self.out.read_bytes()), (["out"], OLD))
+
+    @for_each_program
+    def test_what_is_no_plain_file_is_not_forced_to_the_disk(self, program):
+        self.assertEqual(self.prepare(program, "/dev/null", env=self.preloading(IS_FULL_AT_LAST)), DONE)
 
     def names(self):
         """The names in the folder."""
@@ -92,11 +125,9 @@ class PreparedFile(unittest.TestCase):
 
     @for_each_program
     def test_nobody_else_can_open_a_new_file_before_it_has_its_mode(self, program):
-        library = self.folder / "says_mode.so"
-        subprocess.run(["cc", "-shared", "-fPIC", "-o", library, "-x", "c", "-"], input=SAYS_MODE, check=True)
         self.out.write_bytes(OLD)
         self.out.chmod(0o640)
-        said = self.prepare(program, self.out, env={**os.environ, "LD_PRELOAD": str(library)}, preexec_fn=lambda: os.umask(0))
+        said = self.prepare(program, self.out, env=self.preloading(SAYS_MODE), preexec_fn=lambda: os.umask(0))
         self.assertEqual(said, Answer(0, b"", b"600 becomes 640\n"))
         self.assertEqual(self.out.stat().st_mode & 0o7777, 0o640)
 
@@ -244,8 +275,8 @@ class StoppedRuns(unittest.TestCase):
             killed = [run for run in runs if run[0] == -signal.SIGKILL]
             self.assertEqual(runs[-1], (0, new, []))
             self.assertEqual(len(killed), len(runs) - 1)
-            # At least the calls that open FILE, open a new file, write it, and rename it.
-            self.assertGreaterEqual(len(killed), 4)
+            # At least the calls that open FILE, open a new file, write it, have it written to the disk, and rename it.
+            self.assertGreaterEqual(len(killed), 5)
             # Nothing is renamed before the last of these calls, and a killed run leaves at most its own file.
             self.assertEqual({out for _, out, _ in killed}, {before})
             self.assertLessEqual({len(left) for _, _, left in killed}, {0, 1})

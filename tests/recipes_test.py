@@ -5,9 +5,11 @@ import os
 import pathlib
 import re
 import shutil
+import signal
 import struct
 import subprocess
 import tempfile
+import time
 import unittest
 import zlib
 
@@ -137,12 +139,35 @@ class Recipes(unittest.TestCase):
         (self.folder / "metaplay-side=4").write_bytes(b"")
         told = self.run_words(*job[:-1], "metaplay-side=*", "dot.wmf", **settings)
         self.assertEqual(told, (1, b"", b"ERROR: metaplay-side is a number of pixels\n"))
+        told = self.run_words(*job[:-1], "metaplay-seconds=1h", "dot.wmf", **settings)
+        self.assertEqual(told, (1, b"", b"ERROR: metaplay-seconds is a number of seconds\n"))
+
+    def test_the_filter_of_cups_ends_in_time(self):
+        program = self.folder / "slow"
+        program.write_text("#!/bin/sh\necho began >&2; exec sleep 60\n")
+        program.chmod(0o755)
+        job = [RECIPES / "metaplaytopnm", "7", "somebody", "a title", "1"]
+        told = self.run_words(*job, "metaplay-seconds=1", "dot.wmf", METAPLAY=str(program))
+        self.assertEqual(told, (1, b"", b"ERROR: the file takes more than 1 seconds\n"))
+        # A signal to the shell alone ends it and the program.
+        rooms = self.folder / "rooms"
+        rooms.mkdir()
+        settings = {**os.environ, "METAPLAY": str(program), "TMPDIR": str(rooms)}
+        with subprocess.Popen([*map(str, job), "", "dot.wmf"], cwd=self.folder, env=settings, start_new_session=True) as running:
+            for _ in range(1000):
+                if any(it.read_bytes() for it in rooms.glob("*/said")):
+                    break
+                time.sleep(0.01)
+            running.send_signal(signal.SIGTERM)
+            self.assertEqual(running.wait(timeout=30), 143)
+        self.assertEqual(list(rooms.iterdir()), [])
 
     @needs("jq", "xargs", "find")
     def test_a_folder_side_by_side(self):
         if not (has_command("prepare") and has_command("check")):
             self.skipTest("the program has no commands for certificates")
-        line = f"find . -iname '*.[we]mf' -print0 | xargs -0 -r -n 1 -P 4 {RECIPES / 'check-file'} 64 64"
+        os.mkfifo(self.folder / "pipe.wmf")
+        line = f"find . -type f -iname '*.[we]mf' -print0 | xargs -0 -r -n 1 -P 4 {RECIPES / 'check-file'} 64 64"
         for _ in range(2):
             # The second time the certificate of the file that is accepted is there.
             status, out, err = self.run_words("sh", "-c", line)
@@ -162,6 +187,10 @@ class Recipes(unittest.TestCase):
             status, out, _ = self.run_words(RECIPES / "check-file", "64", "64", name)
             report = {"file": name, "accepted": False, "code": code, "fault": fault, "number": number, "record": record}
             self.assertEqual((status, json.loads(out)), (1, report))
+        # A file may have the name that stands for standard input.
+        (self.folder / "stdin").write_bytes(DOT)
+        status, out, _ = self.run_words(RECIPES / "check-file", "64", "64", "stdin", given=b"no metafile")
+        self.assertEqual((status, json.loads(out)["file"], (self.folder / "stdin.mpc").exists()), (0, "./stdin", True))
         status, out, _ = self.run_words(RECIPES / "check-file", "64", "64", "no file")
         self.assertEqual((status, json.loads(out)), (1, {"file": "no file", "accepted": False, "said": "cannot read"}))
         # A certificate of another file is refused by the report.
@@ -249,6 +278,14 @@ class Recipes(unittest.TestCase):
             status, _, err = self.run_words(RECIPES / "pre-commit", *words, GIT_DIR="/no folder")
             self.assertEqual((status, bool(err)), (1, True))
         self.assertEqual(self.run_words(RECIPES / "pre-commit", "dot.wmf", "held file.wmf", "dot.wmf")[0], 1)
+        # A setting of git doesn't hide a file of another folder, and a name has no control characters where it is shown.
+        odd = "a\\n::b\x1b[1m\n.wmf"
+        shutil.copy(HELD, self.folder / odd)
+        self.run_words(*git, "add", odd)
+        self.run_words(*git, "config", "diff.relative", "true")
+        status, out, err = self.run_words("sh", "-c", f"cd below && {RECIPES / 'pre-commit'}")
+        self.assertEqual((status, out), (1, b""))
+        self.assertTrue(err.startswith(HELD_LINE + b"pre-commit: rejected: a\\n::b?[1m?.wmf\n"), err)
 
 
 class Page(unittest.TestCase):

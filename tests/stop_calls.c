@@ -1,5 +1,5 @@
 /* Preloaded into a program, this kills it before one of its calls that open, write, rename or remove
-   a file, or change its mode: before the one whose number, counted from 1, the variable STOP_CALL
+   a file, change its mode or have it written to the disk: before the one whose number, counted from 1, the variable STOP_CALL
    has. */
 #define _GNU_SOURCE
 #include <dlfcn.h>
@@ -45,3 +45,4 @@ COUNTED(ssize_t, write, (int file, const void *bytes, size_t count), (file, byte
 COUNTED(int, rename, (const char *from, const char *to), (from, to))
 COUNTED(int, unlink, (const char *path), (path))
 COUNTED(int, fchmod, (int file, mode_t mode), (file, mode))
+COUNTED(int, fsync, (int file), (file))

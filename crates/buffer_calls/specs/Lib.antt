@@ -1,3 +1,4 @@
+pub mod CertifiedTerms
 pub mod Checks
 pub mod FaultNames
 pub mod Fitted

@@ -9,6 +9,7 @@
 //!   per pixel, row by row (`play_into`, by `EndsPlay`). The file is played in bands, so there is no second image in
 //!   memory.
 //! - The sides that fit a file's frame are the largest ones in its proportion (`fitted_for`, by `fitted_result`).
+//! - What a certificate says of every play is read without a file (`terms_of`, by `terms_result`).
 //! - Each fault has its name by its code, and no other number has one (`fault_name`, `copy_fault_name`).
 //! - A call that is done changes no other byte of the buffer. Every other call leaves the whole buffer unchanged. A
 //!   buffer that is too short is answered with the length that is needed.
@@ -28,6 +29,7 @@ mod sample_writer;
 mod samples;
 mod split;
 mod target;
+mod terms;
 
 pub use checking::check_bytes;
 pub use fault_names::{copy_fault_name, fault_name};
@@ -35,3 +37,4 @@ pub use fitting::fitted_for;
 pub use outcome::Outcome;
 pub use playing::play_into;
 pub use preparing::prepare_into;
+pub use terms::{Terms, terms_of};

@@ -34,6 +34,7 @@ const GUIDE: &str = "Examples:
 
 FILE may be the word stdin, for standard input. Images are P6 (ppm(5)). The
 report of check, and what info writes about a file, is one line of JSON.
+--version, or -V, prints the version and a checksum of the sources.
 
 Exit status:
   0  done

@@ -159,10 +159,14 @@ impl<R: Files + AllocGlobal> Write for NamedOutput<'_, R> {
         }
     }
 
-    /// Gives the new file, which is whole, its name.
+    /// Gives the new file, which is whole, its name. It is on the disk by then: what can't be stored there is reported now,
+    /// and the power may fail afterwards.
     fn flush(&mut self) -> io::Result<()> {
         if let Some(file) = &mut self.file {
             file.flush()?;
+            if self.is_unnamed {
+                file.sync_all()?;
+            }
         }
         if self.is_unnamed {
             fs::rename(self.rt, self.path.as_str(), self.name)?;

@@ -2,4 +2,4 @@
 
 /// The line that `--version` writes: the version, and the checksum of all sources but this one.
 pub(crate) const VERSION: &str =
-    "metaplay 1.0.0 (sources 0bdd1684f97c5bcc5755cbe40c1f184af9b69d251d009e6b164c2e134ddaa11c)\n";
+    "metaplay 1.0.0 (sources 3478131fb041b531e66aaaba146a43afa7579baff22781ce697ac289f031fcb8)\n";

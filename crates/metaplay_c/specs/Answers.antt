@@ -7,8 +7,10 @@ use Rattle.draw_ops.specs.declared.fault.Fault.{Fault}
 use Rattle.preflight_cert.specs.declared.refusal.Refusal.{Refusal}
 use Rattle.buffer_calls.specs.FaultNames.{EndsName}
 use Rattle.buffer_calls.specs.declared.outcome.Outcome.{Outcome}
+use Rattle.buffer_calls.specs.declared.terms.Terms.{Terms}
 use Rattle.buffer_calls.specs.declared.outcome.Outcome.TheVariants.{Done, OutOfMemory, Rejected, TooShort}
 use Rattle.metaplay_c.specs.declared.answers.Answer.{Answer}
+use Rattle.metaplay_c.specs.declared.answers.CertificateTerms.{CertificateTerms}
 use Rattle.metaplay_c.specs.declared.answers.SurfaceSides.{SurfaceSides}
 
 -- the number, or 0 if there is none
@@ -68,3 +70,9 @@ pub record ReportsName (code : ℕ) (old new : List ℕ) (answer : Answer) : Typ
 abbrev pub ReportsSides : Result Sides Fault → SurfaceSides → SurfaceSides → Answer → Type 0
 ReportsSides (Ok fitted) old new answer = (answer ≡ plain_answer 0 0) × (new ≡ record { width = fitted.width; height = fitted.height })
 ReportsSides (Err fault) old new answer = (answer ≡ rejected_answer record { number = None; fault = fault }) × (new ≡ old)
+
+-- The terms are those of a certificate, and the call is done; or it is rejected, and the terms are unchanged.
+abbrev pub ReportsTerms : Result Terms Fault → CertificateTerms → CertificateTerms → Answer → Type 0
+ReportsTerms (Ok terms) old new answer =
+    (answer ≡ plain_answer 0 0) × (new ≡ record { writes = terms.writes; max_width = terms.max_width; max_height = terms.max_height })
+ReportsTerms (Err fault) old new answer = (answer ≡ rejected_answer record { number = None; fault = fault }) × (new ≡ old)

@@ -47,6 +47,15 @@ pub struct SurfaceSides {
     pub height: u32,
 }
 
+/// What a certificate says of every play: the most pixels that it writes, and the bound in pixels.
+#[repr(C)]
+#[derive(Clone, Copy, Debug, PartialEq, Eq)]
+pub struct CertificateTerms {
+    pub writes: u64,
+    pub max_width: u32,
+    pub max_height: u32,
+}
+
 /// The answer for an outcome.
 pub(crate) fn answer_of(outcome: Outcome) -> Answer
     ensures { result ≡ answer_of outcome }

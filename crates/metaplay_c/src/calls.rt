@@ -1,15 +1,17 @@
 //! The functions that C calls.
 
+ghost use Rattle.buffer_calls.specs.CertifiedTerms.{terms_result};
 ghost use Rattle.buffer_calls.specs.Checks.{EndsCheck};
 ghost use Rattle.buffer_calls.specs.Fitted.{fitted_result};
 ghost use Rattle.buffer_calls.specs.Plays.{EndsPlay};
 ghost use Rattle.buffer_calls.specs.Prepares.{EndsPrepare};
-ghost use Rattle.metaplay_c.specs.Answers.{Reports, ReportsName, ReportsSides};
+ghost use Rattle.metaplay_c.specs.Answers.{Reports, ReportsName, ReportsSides, ReportsTerms};
 
 use crate::answers::{
-    Answer, DONE, SurfaceSides, answer_of, name_answer, plain_answer, rejected_answer,
+    Answer, CertificateTerms, DONE, SurfaceSides, answer_of, name_answer, plain_answer,
+    rejected_answer,
 };
-use buffer_calls::{check_bytes, copy_fault_name, fitted_for, play_into, prepare_into};
+use buffer_calls::{check_bytes, copy_fault_name, fitted_for, play_into, prepare_into, terms_of};
 use preflight_cert::Refusal;
 use proportions::Sides;
 use std::alloc::Global;
@@ -67,6 +69,27 @@ pub extern "C" fn metaplay_fitted_sides(
             *sides = SurfaceSides {
                 width: fitted.width,
                 height: fitted.height,
+            };
+            plain_answer(DONE, 0)
+        }
+        Err(fault) => rejected_answer(Refusal::of_file(fault)),
+    }
+}
+
+/// Reads what a certificate says of every play.
+#[unsafe(no_mangle)]
+pub extern "C" fn metaplay_certificate_terms(
+    certificate: &[u8],
+    terms: &mut CertificateTerms,
+) -> Answer
+    ensures { ReportsTerms (terms_result certificate.now) terms.old terms.new result }
+{
+    match terms_of(certificate) {
+        Ok(read) => {
+            *terms = CertificateTerms {
+                writes: read.writes,
+                max_width: read.max_width,
+                max_height: read.max_height,
             };
             plain_answer(DONE, 0)
         }

@@ -7,13 +7,16 @@
 //!   `metaplay_fault_name`, by `ReportsName`).
 //! - The sides that fit a file's frame are written only if there are such sides (`metaplay_fitted_sides`, by
 //!   `ReportsSides`).
+//! - What a certificate says of every play is written only if its bytes are a certificate
+//!   (`metaplay_certificate_terms`, by `ReportsTerms`).
 //! - No function has a `requires`: each answers for any bytes, lengths, numbers and buffers.
 #![tactic(auto)]
 
 mod answers;
 mod calls;
 
-pub use answers::{Answer, SurfaceSides};
+pub use answers::{Answer, CertificateTerms, SurfaceSides};
 pub use calls::{
-    metaplay_check, metaplay_fault_name, metaplay_fitted_sides, metaplay_play, metaplay_prepare,
+    metaplay_certificate_terms, metaplay_check, metaplay_fault_name, metaplay_fitted_sides,
+    metaplay_play, metaplay_prepare,
 };
