@@ -85,8 +85,8 @@ typedef struct metaplay_terms {
 
 /*
  * Checks a certificate against a file. If it is accepted (METAPLAY_DONE), the file plays without a fault at every size
- * up to the certificate's bound, and writes at most the certified number of pixels. That number and the bound are read by
- * `metaplay_certificate_terms`; the time of a play grows with both, so bound them if you play files from strangers.
+ * up to the certificate's bound, and writes at most the certified number of pixels (`metaplay_certificate_terms`). The
+ * time of a play isn't certified: a file that is accepted can take hours (SECURITY.md).
  */
 metaplay_answer metaplay_check(const uint8_t *file, size_t file_length, const uint8_t *certificate,
                                size_t certificate_length);

@@ -241,9 +241,9 @@ class Calls(unittest.TestCase):
             self.assertEqual(fitted(given, 9, 9), (rejected(CODES[fault]), (7, 9)))
 
     def test_the_terms_are_those_of_the_certificate(self):
-        # The greatest numbers that a certificate may have, in its head; the triangle's certificate has the entry of one drawing.
+        # A head alone with a number of more than 32 bits; a dot; and a triangle, which may be filled and stroked.
         head = b"MPC1" + u32(8192, 4096) + u32(5, 16384) + u32(0, 0, 0, 0, 0)
-        for certificate, terms in ((head, (16384 * 2**32 + 5, 8192, 4096)), (DOT_CERT, (16, 4, 4)), (TRIANGLE_CERT, (32, 4, 4))):
+        for certificate, terms in ((head, (16384 * 2**32 + 5, 8192, 4096)), (DOT_CERT, (1, 4, 4)), (TRIANGLE_CERT, (32, 4, 4))):
             self.assertEqual(terms_of(certificate), (plain(SHOW.DONE), terms))
         faults = ((b"", "NotCertificate"), (DOT_CERT[:39], "ShortCertificate"), (DOT_CERT + b"\0", "TrailingBytes"), (changed(DOT_CERT, 4, u32(0)), "BadBound"))
         for certificate, fault in faults:

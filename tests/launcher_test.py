@@ -1,5 +1,6 @@
 """The launcher: when it builds, when it doesn't, and what it does meanwhile."""
 
+import contextlib
 import os
 import pathlib
 import re
@@ -99,7 +100,7 @@ class Launcher(Folder):
     def test_a_build_that_is_killed_leaves_no_lock(self):
         (self.kit / "seconds").write_text("40")
         run = self.begin("list", "x")
-        self.addCleanup(os.killpg, run.pid, signal.SIGKILL)
+        self.addCleanup(self.kill_group, run.pid)
         self.wait_for(lambda: (self.kit / "calls").exists())
         run.kill()
         run.wait()
@@ -119,6 +120,11 @@ class Launcher(Folder):
         out, _ = run.communicate(timeout=10)
         self.assertEqual((run.returncode, out), (3, ""))
         self.assertEqual(sorted(path.name for path in (self.root / "crates/meta_main/out").iterdir()), ["lock"])
+
+    def kill_group(self, group):
+        """Kills what is left of a group of processes."""
+        with contextlib.suppress(ProcessLookupError):
+            os.killpg(group, signal.SIGKILL)
 
     def wait_for(self, is_there):
         """Waits until something is there."""

@@ -107,6 +107,8 @@ class Recipes(unittest.TestCase):
         # The picture is square, so it has only four of these eight columns.
         self.assertEqual(self.run_words(RECIPES / "to-png", "dot.wmf", "8", "4"), (0, out, b""))
         self.assertEqual(self.run_words(RECIPES / "to-png", "held file.wmf", "4", "4"), (1, b"", HELD_LINE))
+        shutil.copy(self.folder / "dot.wmf", self.folder / "-x")
+        self.assertEqual(self.run_words(RECIPES / "to-png", "-x", "4", "4"), (0, out, b""))
         self.assertEqual(self.run_words(RECIPES / "to-png", "dot.wmf", "4"), (2, b"", b"usage: to-png FILE W H\n"))
         status, out, _ = self.run_words(RECIPES / "to-png", "dot.wmf", "4", "4", TMPDIR="/no folder")
         self.assertEqual((status, out), (3, b""))
@@ -139,8 +141,9 @@ class Recipes(unittest.TestCase):
         (self.folder / "metaplay-side=4").write_bytes(b"")
         told = self.run_words(*job[:-1], "metaplay-side=*", "dot.wmf", **settings)
         self.assertEqual(told, (1, b"", b"ERROR: metaplay-side is a number of pixels\n"))
-        told = self.run_words(*job[:-1], "metaplay-seconds=1h", "dot.wmf", **settings)
-        self.assertEqual(told, (1, b"", b"ERROR: metaplay-seconds is a number of seconds\n"))
+        for seconds in ("1h", "0", "00", "100000", ""):
+            told = self.run_words(*job[:-1], f"metaplay-seconds={seconds}", "dot.wmf", **settings)
+            self.assertEqual(told, (1, b"", b"ERROR: metaplay-seconds is a number from 1 to 99999\n"))
 
     def test_the_filter_of_cups_ends_in_time(self):
         program = self.folder / "slow"
@@ -161,6 +164,10 @@ class Recipes(unittest.TestCase):
             running.send_signal(signal.SIGTERM)
             self.assertEqual(running.wait(timeout=30), 143)
         self.assertEqual(list(rooms.iterdir()), [])
+        # A program that ends without a word.
+        program.write_text("#!/bin/sh\nexit 9\n")
+        told = self.run_words(*job, "", "dot.wmf", METAPLAY=str(program))
+        self.assertEqual(told, (1, b"", b"ERROR: metaplay ended with status 9\n"))
 
     @needs("jq", "xargs", "find")
     def test_a_folder_side_by_side(self):
@@ -187,10 +194,11 @@ class Recipes(unittest.TestCase):
             status, out, _ = self.run_words(RECIPES / "check-file", "64", "64", name)
             report = {"file": name, "accepted": False, "code": code, "fault": fault, "number": number, "record": record}
             self.assertEqual((status, json.loads(out)), (1, report))
-        # A file may have the name that stands for standard input.
-        (self.folder / "stdin").write_bytes(DOT)
-        status, out, _ = self.run_words(RECIPES / "check-file", "64", "64", "stdin", given=b"no metafile")
-        self.assertEqual((status, json.loads(out)["file"], (self.folder / "stdin.mpc").exists()), (0, "./stdin", True))
+        # A file may have the name that stands for standard input, or that of an option.
+        for name in ("stdin", "--help"):
+            (self.folder / name).write_bytes(DOT)
+            status, out, _ = self.run_words(RECIPES / "check-file", "64", "64", name, given=b"no metafile")
+            self.assertEqual((status, json.loads(out)["file"], (self.folder / f"{name}.mpc").exists()), (0, f"./{name}", True))
         status, out, _ = self.run_words(RECIPES / "check-file", "64", "64", "no file")
         self.assertEqual((status, json.loads(out)), (1, {"file": "no file", "accepted": False, "said": "cannot read"}))
         # A certificate of another file is refused by the report.
@@ -279,13 +287,15 @@ class Recipes(unittest.TestCase):
             self.assertEqual((status, bool(err)), (1, True))
         self.assertEqual(self.run_words(RECIPES / "pre-commit", "dot.wmf", "held file.wmf", "dot.wmf")[0], 1)
         # A setting of git doesn't hide a file of another folder, and a name has no control characters where it is shown.
-        odd = "a\\n::b\x1b[1m\n.wmf"
+        odd = "a\\n::b\x1b[1m\n\x9bä.wmf"
         shutil.copy(HELD, self.folder / odd)
         self.run_words(*git, "add", odd)
         self.run_words(*git, "config", "diff.relative", "true")
         status, out, err = self.run_words("sh", "-c", f"cd below && {RECIPES / 'pre-commit'}")
         self.assertEqual((status, out), (1, b""))
-        self.assertTrue(err.startswith(HELD_LINE + b"pre-commit: rejected: a\\n::b?[1m?.wmf\n"), err)
+        self.assertTrue(err.startswith(HELD_LINE + "pre-commit: rejected: a\\n::b?[1m??ä.wmf\n".encode()), err)
+        status, _, err = self.run_words(RECIPES / "pre-commit", "no\x1bfile")
+        self.assertEqual((status, err), (1, b"pre-commit: cannot read: no?file\n"))
 
 
 class Page(unittest.TestCase):
