@@ -5,6 +5,7 @@ A hatch has its cells on the surface, whatever it fills: they come again every e
 surface's corner. Between them is the background's colour, or nothing.
 """
 
+import itertools
 import unittest
 
 from answers import shown
@@ -127,6 +128,19 @@ class Hatches(ShapeTest):
                         f"{front}; {TRANSPARENT}; {script}": cells(rows),
                     },
                 )
+
+    @for_each_program
+    def test_boxes_of_each_width_from_each_column(self, program):
+        # Eight columns of a hatch are written at a time, and the eight rows of a hatch are made once for a drawing that has so many.
+        for high, hatch, mode in itertools.product((3, 9), (1, 3, 5), (OPAQUE, TRANSPARENT)):
+            script, picture = [f"{hatch_fill(hatch)}; {BLUE_BACK}; {mode}"], [["."] * 650 for _ in range(650)]
+            for width, left in itertools.product(range(1, 66), range(0, 640, 81)):
+                top, right = 10 * width - 10, left + width
+                script.append(f"polygon {left} {top} {right} {top} {right} {top + high} {left} {top + high}")
+                for x, y in itertools.product(range(left, right), range(top, top + high)):
+                    picture[y][x] = HATCHES[hatch].split()[y % 8][x % 8]
+            rows = " ".join(map("".join, picture))
+            self.check_drawings(program, {"; ".join(script): cells(rows) if mode == TRANSPARENT else rows}, forms=FORMS[:1])
 
     @for_each_program
     def test_the_background_counts_for_hatches_alone(self, program):
