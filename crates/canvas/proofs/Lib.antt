@@ -12,4 +12,5 @@ pub mod FieldLemmas
 pub mod SpanLemmas
 pub mod CallLemmas
 pub mod CellLemmas
+pub mod StripeLemmas
 pub mod EachLemmas

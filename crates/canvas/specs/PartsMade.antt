@@ -12,7 +12,7 @@ EachIs count colours f = (k : ℕ) (any : Colour) → k < count → slice_index_
 abbrev pub EachMixed : ℕ → (ℕ → Mix) → List Colour → List Colour → Type 0
 EachMixed count mixes old new = EachIs count new (λ k any. mixed_by (mixes k) (slice_index_or old k any))
 
--- each colour whose index passes the test is the result of the mix on the old one, and every other is the old one
-abbrev pub MixedWhere : (ℕ → Bool) → Mix → List Colour → List Colour → Type 0
-MixedWhere test mix old new =
-    EachIs (length old) new (λ k any. if test k then mixed_by mix (slice_index_or old k any) else slice_index_or old k any)
+-- each colour whose index passes the test is what f makes of the old one, and every other is the old one
+abbrev pub ChangedWhere : (ℕ → Bool) → (Colour → Colour) → List Colour → List Colour → Type 0
+ChangedWhere test f old new =
+    EachIs (length old) new (λ k any. if test k then f (slice_index_or old k any) else slice_index_or old k any)

@@ -6,8 +6,8 @@
 //! - A canvas can be reset to other rows in one colour. It keeps its count and allocates no memory (`Canvas::again`).
 //! - A write changes the named pixel and no other, and is counted once (`Canvas::put`).
 //! - A call that writes a part of a row writes the named pixels, each in its colour, changes no other pixel and counts
-//!   each write (`Canvas::put_span`, `put_swatch`, `put_pattern`, `put_row`, `mix_span`, `mix_row`, `mix_cells`, `mix`,
-//!   by `Repaints`).
+//!   each write (`Canvas::put_span`, `put_swatch`, `put_stripes`, `put_row`, `mix_span`, `mix_row`,
+//!   `mix_cells`, `mix`, by `Repaints`).
 //! - Pixels that a source returns one by one, none twice, are written in one colour or changed by one mix, and each is
 //!   counted once (`Canvas::put_each`, `Canvas::mix_each`, `PixelSource`).
 //! - The same holds for the pixels of row spans that a source returns one by one, with no pixel in two of them
@@ -43,6 +43,7 @@ mod reading;
 mod sending;
 mod span_source;
 mod splat;
+mod stripes;
 mod surface;
 mod writing;
 
@@ -56,4 +57,5 @@ pub use ppm_counted::write_header_to;
 pub use sending::send;
 pub use span_source::{RowSpan, SpanSource};
 pub use splat::Splat;
+pub use stripes::Stripes;
 pub use surface::Canvas;

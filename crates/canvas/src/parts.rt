@@ -6,39 +6,42 @@ ghost use Rattle.mapping.specs.declared.geometry.Colour.{Colour};
 ghost use Rattle.mapping.specs.Mixes.{mixed_by};
 ghost use Rattle.mapping.specs.Pixels.{count_indexes, is_cell};
 ghost use Rattle.canvas.specs.MixRows.{mix_at};
-ghost use Rattle.canvas.specs.PartsMade.{EachIs, EachMixed, MixedWhere};
+ghost use Rattle.canvas.specs.PartsMade.{ChangedWhere, EachIs, EachMixed};
 
+use crate::pixel_change::PixelChange;
 use crate::splat::Splat;
+use crate::stripes::Stripes;
 use mapping::{Colour, Mix};
 
 /// The number of repeating colours.
 const PERIOD: usize = 8;
 
-/// Fills the part, whose first colour is in this column, with the colours of the pattern, each at its column modulo 8.
-/// From the column where the pattern begins it is copied unchanged: rotating the pattern first would cause a stall.
-pub(crate) fn fill_with_pattern(part: &mut [Colour], column: u32, pattern: &[Colour; 8])
-    ensures { EachIs (length part.old) part.new (λ k any. slice_index_or pattern.now ((column + k) % 8) any) }
+/// Fills the part, whose first colour is in this column, with the stripes' colours, each at its column modulo 8, by
+/// copies of eight. The last copy is aligned to the end of the part.
+pub(crate) fn fill_with_stripes(part: &mut [Colour], column: u32, stripes: &Stripes)
+    ensures { EachIs (length part.old) part.new (λ k any. slice_index_or stripes.now.twice ((column + k) % 8) any) }
 {
-    let first = columns_to_next(column).min(part.len());
-    fill_few(&mut part[..first], column, pattern);
-    repeat(&mut part[first..], pattern);
+    if part.len() < PERIOD {
+        put_few_stripes(part, column, stripes);
+        return;
+    }
+    repeat_whole(part, stripes.eight_from(rotated(column, 0)));
+    let last = part.len() - PERIOD;
+    copy_at(
+        part,
+        last,
+        stripes.eight_from(rotated(column, last % PERIOD)),
+    );
 }
 
-/// The number of columns from this one to the next where the pattern begins.
-fn columns_to_next(column: u32) -> usize
-    ensures few { result < 8 }
-    ensures begins { (column + result) % 8 ≡ 0 }
-{
-    (PERIOD - rotated(column, 0)) & 7
-}
-
-/// The same as `fill_with_pattern` for at most 8 colours.
-fn fill_few(part: &mut [Colour], column: u32, pattern: &[Colour; 8])
+/// The same for a few colours.
+fn put_few_stripes(part: &mut [Colour], column: u32, stripes: &Stripes)
     requires { length part.old ≤ 8 }
-    ensures { EachIs (length part.old) part.new (λ k any. slice_index_or pattern.now ((column + k) % 8) any) }
+    ensures { EachIs (length part.old) part.new (λ k any. slice_index_or stripes.now.twice ((column + k) % 8) any) }
 {
+    let first = rotated(column, 0);
     for k in 0..part.len() {
-        part[k] = pattern[rotated(column, k)];
+        part[k] = stripes.twice[first + k];
     }
 }
 
@@ -64,19 +67,10 @@ fn put_few(part: &mut [Colour], colour: Colour)
     }
 }
 
-/// Fills the part with these eight colours, repeatedly. All but the last few are copied eight at a time: the compiler
-/// knows that size, which is faster than single colours or copies of other sizes.
-fn repeat(part: &mut [Colour], colours: &[Colour; 8])
-    ensures { EachIs (length part.old) part.new (λ k any. slice_index_or colours.now (k % 8) any) }
-{
-    let filled = repeat_whole(part, colours);
-    for k in filled..part.len() {
-        part[k] = colours[k & 7];
-    }
-}
-
-/// Fills the part with whole copies of the colours, and returns how many colours were filled.
-fn repeat_whole(part: &mut [Colour], colours: &[Colour; 8]) -> usize
+/// Fills the part with whole copies of the eight colours, and returns how many colours were filled. The compiler knows
+/// their size, so this is faster than single colours or copies of other sizes.
+fn repeat_whole(part: &mut [Colour], colours: &[Colour]) -> usize
+    requires { length colours.now ≡ 8 }
     ensures within { result ≤ length part.old }
     ensures all_but_few { length part.old < result + 8 }
     ensures colours { EachIs result part.new (λ k any. slice_index_or colours.now (k % 8) any) }
@@ -89,9 +83,10 @@ fn repeat_whole(part: &mut [Colour], colours: &[Colour; 8]) -> usize
     filled
 }
 
-/// Copies the colours to this index of the part.
-fn copy_at(part: &mut [Colour], at: usize, colours: &[Colour; 8])
-    requires { at + 8 ≤ length part.old }
+/// Copies the eight colours to this index of the part.
+fn copy_at(part: &mut [Colour], at: usize, colours: &[Colour])
+    requires eight { length colours.now ≡ 8 }
+    requires within { at + 8 ≤ length part.old }
     ensures before { (k : ℕ) (d : Colour) → k < at → slice_index_or part.new k d ≡ slice_index_or part.old k d }
     ensures here { (k : ℕ) (d : Colour) → k < 8 → slice_index_or part.new (at + k) d ≡ slice_index_or colours.now k d }
     ensures after { (k : ℕ) (d : Colour) → at + 8 ≤ k → slice_index_or part.new k d ≡ slice_index_or part.old k d }
@@ -155,31 +150,36 @@ fn mixed_eight(part: &[Colour], keeps: &[Colour], flips: &[Colour], at: usize) -
     colours
 }
 
-/// Mixes the colours whose column has its bit set in `cells`, and returns how many there are. The part's first colour
+/// Changes the colours whose column has its bit set in `cells`, and returns how many there are. The part's first colour
 /// is in this column.
-pub(crate) fn mix_cells_of(part: &mut [Colour], column: u32, cells: u8, mix: Mix) -> usize
-    ensures colours { MixedWhere (λ k. is_cell cells (column + k)) mix part.old part.new }
+pub(crate) fn change_cells_of<C: PixelChange>(
+    part: &mut [Colour],
+    column: u32,
+    cells: u8,
+    change: C,
+) -> usize
+    ensures colours { ChangedWhere (λ k. is_cell cells (column + k)) (C.made change) part.old part.new }
     ensures count { result ≡ count_indexes (λ k. is_cell cells (column + k)) 0 (length part.old) }
     ensures most { result ≤ length part.old }
 {
     let mut count = 0;
     for offset in 0..PERIOD {
         if has_bit(cells, rotated(column, offset)) {
-            count += mix_each_eighth(part, offset, mix);
+            count += change_each_eighth(part, offset, change);
         }
     }
     count
 }
 
-/// Mixes every eighth colour, from this one on, and returns how many there are.
-fn mix_each_eighth(part: &mut [Colour], offset: usize, mix: Mix) -> usize
+/// Changes every eighth colour, from this one on, and returns how many there are.
+fn change_each_eighth<C: PixelChange>(part: &mut [Colour], offset: usize, change: C) -> usize
     requires { offset < 8 }
-    ensures colours { MixedWhere (λ k. k % 8 == offset) mix part.old part.new }
+    ensures colours { ChangedWhere (λ k. k % 8 == offset) (C.made change) part.old part.new }
     ensures count { result ≡ count_indexes (λ k. k % 8 == offset) 0 (length part.old) }
 {
     let mut at = offset;
     while at < part.len() {
-        part[at] = mix.apply(part[at]);
+        part[at] = change.of(part[at]);
         at += PERIOD;
     }
     (part.len() + 7 - offset) / PERIOD

@@ -5,8 +5,11 @@ ghost use Rattle.mapping.specs.Mixes.{mixed_by};
 ghost use Rattle.canvas.specs.CanvasState.{HasPixel, HasRow};
 ghost use Rattle.canvas.specs.Writing.{Repaints, in_cells, in_row, in_row_span, is_at, mixed_by_row, put_by_pattern, put_by_row};
 
-use crate::parts::{fill_with, fill_with_pattern, mix_all, mix_all_by, mix_cells_of};
+use crate::parts::{change_cells_of, fill_with, fill_with_stripes, mix_all, mix_all_by};
+use crate::pixel_change::PixelChange;
+use crate::span_source::RowSpan;
 use crate::splat::Splat;
+use crate::stripes::Stripes;
 use crate::surface::{Canvas, place};
 use mapping::{Colour, Mix};
 
@@ -38,19 +41,19 @@ impl Canvas {
         self.writes += u64::from(x_to - x_from);
     }
 
-    /// Writes the pixels of row `y` in the columns from `x_from` to before `x_to`, each in the colour of the pattern at
-    /// its column modulo 8.
-    pub fn put_pattern(&mut self, x_from: u32, x_to: u32, y: u32, pattern: &[Colour; 8])
+    /// Writes the pixels of row `y` in the columns from `x_from` to before `x_to`, each in the stripes' colour at its column
+    /// modulo 8.
+    pub fn put_stripes(&mut self, x_from: u32, x_to: u32, y: u32, stripes: &Stripes)
         requires columns { x_from ≤ x_to }
         requires width { x_to ≤ self.old.width }
         requires row { HasRow self.old y }
         requires countable { self.old.writes + (x_to - x_from) < 2 ^ 64 }
-        ensures pixels { Repaints (in_row_span y x_from x_to) (put_by_pattern pattern.now) self.old self.new }
+        ensures pixels { Repaints (in_row_span y x_from x_to) (put_by_pattern stripes.now.twice) self.old self.new }
         ensures count { self.new.writes ≡ self.old.writes + (x_to - x_from) }
     {
         let start = place(self.stride, y - self.first, x_from);
         let end = start + (x_to - x_from) as usize;
-        fill_with_pattern(&mut self.colours[start..end], x_from, pattern);
+        fill_with_stripes(&mut self.colours[start..end], x_from, stripes);
         self.writes += u64::from(x_to - x_from);
     }
 
@@ -100,7 +103,7 @@ impl Canvas {
     }
 
     /// Changes the pixels of row `y` in the columns from `x_from` to before `x_to` whose bit, at their column modulo 8,
-    /// is set in `cells`, by the mix.
+    /// is set in `cells`, by the mix. If the mix gives one colour for all old colours, none is read.
     pub fn mix_cells(&mut self, x_from: u32, x_to: u32, y: u32, cells: u8, mix: Mix)
         requires columns { x_from ≤ x_to }
         requires width { x_to ≤ self.old.width }
@@ -109,9 +112,30 @@ impl Canvas {
         ensures pixels { Repaints (in_cells y x_from x_to cells) (λ column row old. mixed_by mix old) self.old self.new }
         ensures count { self.new.writes ≤ self.old.writes + (x_to - x_from) }
     {
-        let start = place(self.stride, y - self.first, x_from);
-        let end = start + (x_to - x_from) as usize;
-        let count = mix_cells_of(&mut self.colours[start..end], x_from, cells, mix);
+        self.width();
+        let span = RowSpan {
+            y,
+            from: x_from,
+            to: x_to,
+        };
+        match mix.constant() {
+            Some(colour) => self.change_cells(span, cells, colour),
+            None => self.change_cells(span, cells, mix),
+        }
+    }
+
+    /// Changes the pixels of a span whose bit, at their column modulo 8, is set in `cells`.
+    fn change_cells<C: PixelChange>(&mut self, span: RowSpan, cells: u8, change: C)
+        requires columns { span.from ≤ span.to }
+        requires width { span.to ≤ self.old.width }
+        requires row { HasRow self.old span.y }
+        requires countable { self.old.writes + (span.to - span.from) < 2 ^ 64 }
+        ensures pixels { Repaints (in_cells span.y span.from span.to cells) (λ column row old. C.made change old) self.old self.new }
+        ensures count { self.new.writes ≤ self.old.writes + (span.to - span.from) }
+    {
+        let start = place(self.stride, span.y - self.first, span.from);
+        let end = start + (span.to - span.from) as usize;
+        let count = change_cells_of(&mut self.colours[start..end], span.from, cells, change);
         self.writes += count as u64;
     }
 

@@ -1,4 +1,5 @@
 pub mod MixLemmas
+pub mod HatchLemmas
 pub mod StripLemmas
 pub mod LinePixelLemmas
 pub mod LineStepLemmas

@@ -22,7 +22,7 @@ use Rattle.painting.specs.FillStyles.{colour_seen}
 use Rattle.painting.specs.RowPainters.{HoldsRead, ReadsNothing}
 use Rattle.painting.specs.SourceRows.{HoldsRow, ReadsBox, ReadsRow}
 use Rattle.painting.specs.declared.row_painter.RowOps.{RowOps}
-use Rattle.painting.specs.declared.row_painter.RowOps.TheVariants.{EachRow, Same}
+use Rattle.painting.specs.declared.row_painter.RowOps.TheVariants.{EachRow, Repeated, Same}
 use Rattle.painting.proofs.TestLemmas.{column_from}
 
 -- the maximum of two ends is as far after the minimum as they are apart
@@ -101,4 +101,5 @@ narrowed (Some r) columns part y first last h =
 
 pub nothing_read : (row_ops : RowOps) (columns : Span) (y : ℕ) (sources : List Colour) → ReadsNothing row_ops → HoldsRead row_ops columns y sources
 nothing_read (Same row_op) columns y sources alone = tt
+nothing_read (Repeated row_ops) columns y sources alone = tt
 nothing_read (EachRow paint) columns y sources alone = rw alone tt

@@ -93,7 +93,7 @@ pub painted_same : WritingLaws → (one other : PaintValue) (shape : ℕ → ℕ
 painted_same laws one other shape old new whole same r =
     laws.same (paints one shape) (paints other shape) one.makes other.makes old new whole
     (λ x y held. ap (λ (clip : ClipValue). in_boxes clip x y && shape x y && one.has x y) same.clip ∙ ap (λ (b : Bool). in_boxes other.clip x y && shape x y && b) (same.has x y))
-    (λ x y c held t. same.makes x y c)
+    (λ x y c held t. same.makes x y c (and_parts (in_boxes one.clip x y && shape x y) (one.has x y) t).1)
     r
 
 -- the same for each shape with the same pixels

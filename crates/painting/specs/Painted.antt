@@ -25,8 +25,8 @@ paints paint shape x y = in_boxes paint.clip x y && shape x y && paint.has x y
 abbrev pub PaintsShape : PaintValue → (ℕ → ℕ → Bool) → CanvasState → CanvasState → Type 0
 PaintsShape paint shape old new = Repaints (paints paint shape) paint.makes old new
 
--- two paints do the same
+-- two paints do the same where they have a colour
 pub record SamePaint (one other : PaintValue) : Type 0 where
   pub clip : one.clip ≡ other.clip
   pub has : (x y : ℕ) → one.has x y ≡ other.has x y
-  pub makes : (x y : ℕ) (old : Colour) → one.makes x y old ≡ other.makes x y old
+  pub makes : (x y : ℕ) (old : Colour) → one.has x y ≡ true → one.makes x y old ≡ other.makes x y old

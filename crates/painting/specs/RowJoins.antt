@@ -8,7 +8,8 @@ use Rattle.raster_ops.specs.TernaryOps.{ternary_colour}
 use Rattle.raster_ops.specs.declared.rows.BrushRow.{BrushRow}
 use Rattle.span_fill.specs.declared.span.Span.{Span}
 use Rattle.painting.specs.Joined.{joined_if}
-use Rattle.painting.specs.RowOps.{mixed_at}
+use Rattle.painting.specs.RowOps.{inked, is_inked, mixed_at}
+use Rattle.painting.specs.declared.row_op.RowOp.{RowOp}
 use Rattle.painting.specs.declared.row_op_scratch.MixScratch.{MixScratch}
 
 -- in these columns, if a column passes the test, the new colour is the wanted one
@@ -34,3 +35,8 @@ joined_patterns op patterns x old = ternary_colour op.table (colours_at patterns
 -- the result of the mix at a column of the scratch buffers
 abbrev pub mixed_in : MixScratch → ℕ → Colour → Colour
 mixed_in scratch x old = mixed_at scratch.keeps.value scratch.flips.value x old
+
+-- a row operation writes where the brush's row has a colour, and combines it with the old one, without a source
+pub record IsJoined (op : TernaryOp) (row : BrushRow) (row_op : RowOp) : Type 0 where
+  pub test : (x : ℕ) → is_inked row_op x ≡ row_has row x
+  pub colour : (x : ℕ) (old : Colour) → row_has row x ≡ true → inked row_op x old ≡ joined_row op (λ x. black_colour) row x old

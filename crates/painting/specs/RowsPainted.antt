@@ -6,7 +6,7 @@ use Rattle.canvas.specs.Writing.{Repaints}
 use Rattle.span_fill.specs.Spans.{in_spans}
 use Rattle.span_fill.specs.declared.span.Span.{Span}
 use Rattle.painting.specs.Painted.{PaintValue, paints}
-use Rattle.painting.specs.RowOps.{inked, is_inked}
+use Rattle.painting.specs.RowOps.{inked, is_inked, repeated_row_op}
 use Rattle.painting.specs.Strips.{is_painted}
 use Rattle.painting.specs.declared.row_op.RowOp.{RowOp}
 
@@ -27,6 +27,11 @@ pub record IsRowOp (paint : PaintValue) (columns : Span) (y : ℕ) (row_op : Row
 pub record IsSameRowOp (paint : PaintValue) (row_op : RowOp) : Type 0 where
   pub test : (x y : ℕ) → is_inked row_op x ≡ paint.has x y
   pub colour : (x y : ℕ) (old : Colour) → inked row_op x old ≡ paint.makes x y old
+
+-- eight row operations, which repeat by row, write the same as a paint does
+pub record AreRepeatedRowOps (paint : PaintValue) (row_ops : List RowOp) : Type 0 where
+  pub test : (x y : ℕ) → is_inked (repeated_row_op row_ops y) x ≡ paint.has x y
+  pub colour : (x y : ℕ) (old : Colour) → paint.has x y ≡ true → inked (repeated_row_op row_ops y) x old ≡ paint.makes x y old
 
 -- the pixels in these spans of a row were painted, by a row operation that does what the paint does there
 pub record PaintsSpans (paint : PaintValue) (columns : Span) (y : ℕ) (spans : List Span) (old new : CanvasState) : Type 0 where

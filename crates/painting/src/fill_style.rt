@@ -1,6 +1,6 @@
 //! Fill styles: how a brush changes pixels, by a raster operation, in the current modes and under a clip.
 
-ghost use Rattle.std.specs.Prelude.{◌≡◌, ◌≤◌, ℕ, None, IfSome, if◌then◌else◌};
+ghost use Rattle.std.specs.Prelude.{◌≡◌, ◌≤◌, ℕ, None, IfSome, IsTrue, length, if◌then◌else◌};
 ghost use Rattle.mapping.specs.Colours.{black_colour};
 ghost use Rattle.dc_stack.specs.Drawing.{tools_of};
 ghost use Rattle.draw_ops.specs.Objects.{brush_value_of};
@@ -12,7 +12,7 @@ ghost use Rattle.painting.specs.Painted.{SamePaint};
 ghost use Rattle.painting.specs.PaintsOfLayers.{IsFillStyleOf};
 ghost use Rattle.painting.specs.SourceRows.{HoldsRow};
 
-use crate::row_op::{RowOp, full, row_op, source_row_op};
+use crate::row_op::{PERIOD, RowOp, full, row_op, source_row_op, ungathered_row_op};
 use crate::row_op_scratch::{BLACK, MAX_SIDE, MixScratch};
 use crate::row_painter::{RowOps, RowPainter};
 use dc_stack::{Clip, Dc, Machine, Modes};
@@ -37,8 +37,8 @@ pub(crate) struct FillStyle<'d, 'a> {
 
 impl<'d, 'a> FillStyle<'d, 'a> {
     ghost use Rattle.painting.specs.FillStyles.{fill_style_paint, colour_of};
-    ghost use Rattle.painting.specs.RowPainters.{ReadsAs, ReadsNothing, painter_paint};
-    ghost use Rattle.painting.specs.RowsPainted.{IsRowOp, IsSameRowOp};
+    ghost use Rattle.painting.specs.RowPainters.{HasEight, ReadsAs, ReadsNothing, painter_paint};
+    ghost use Rattle.painting.specs.RowsPainted.{AreRepeatedRowOps, IsRowOp, IsSameRowOp};
 
     /// The fill style of a brush in the machine's current state.
     pub(crate) fn with<T: Table<'a>>(
@@ -88,17 +88,25 @@ impl<'d, 'a> FillStyle<'d, 'a> {
     }
 
     /// A painter of rows in this style, within some columns. If the style treats all rows alike, it uses one row
-    /// operation for all of them.
-    pub(crate) fn painter<'p>(&'p self, columns: Span) -> RowPainter<'p, 'd, 'a>
+    /// operation for all of them, or else those of a hatch if they were made.
+    pub(crate) fn painter<'p>(
+        &'p self,
+        columns: Span,
+        hatch: Option<&'p [RowOp<'static>]>,
+    ) -> RowPainter<'p, 'd, 'a>
+        requires eight { IfSome hatch (λ row_ops. length row_ops.now ≡ 8) }
+        requires hatch { IfSome hatch (λ row_ops. AreRepeatedRowOps (fill_style_paint self.now) row_ops.now) }
         ensures paint { SamePaint (painter_paint result) (fill_style_paint self.now) }
         ensures columns { result.columns ≡ columns }
         ensures clip { result.clip.now ≡ self.now.clip.now }
+        ensures eight { HasEight result.row_ops }
         ensures alone { self.now.source ≡ None → ReadsNothing result.row_ops }
         ensures reads { ReadsAs self.now.source result.row_ops }
     {
-        let row_ops = match self.same_row_op() {
-            Some(row_op) => RowOps::Same(row_op),
-            None => RowOps::EachRow(self),
+        let row_ops = match (self.same_row_op(), hatch) {
+            (Some(row_op), _) => RowOps::Same(row_op),
+            (None, Some(row_ops)) => RowOps::Repeated(row_ops),
+            (None, None) => RowOps::EachRow(self),
         };
         RowPainter {
             clip: self.clip,
@@ -115,6 +123,27 @@ impl<'d, 'a> FillStyle<'d, 'a> {
             (Brush::Solid(colour), None) => Some(full(self.operation.mix(colour, BLACK))),
             _ => None,
         }
+    }
+
+    /// Puts the row operations of a hatch without a source, if there are enough rows to use each of them, and returns
+    /// whether it did.
+    pub(crate) fn put_hatch_row_ops(&self, rows: Span, row_ops: &mut [RowOp<'static>]) -> bool
+        requires { length row_ops.old ≡ 8 }
+        ensures { IsTrue result → AreRepeatedRowOps (fill_style_paint self.now) row_ops.new }
+    {
+        let (Brush::Hatched { .. }, None) = (self.brush, self.source) else {
+            return false;
+        };
+        if rows.to.saturating_sub(rows.from) < PERIOD {
+            return false;
+        }
+        for y in 0..PERIOD {
+            let Some(row_op) = ungathered_row_op(&self.brush_row(y), self.operation) else {
+                return false;
+            };
+            row_ops[y as usize] = row_op;
+        }
+        true
     }
 
     /// The row operation for some columns of a row. The source colours of these columns must have been gathered.

@@ -1,6 +1,6 @@
 //! Fills the inside of outlines and boxes, row by row.
 
-ghost use Rattle.std.specs.Prelude.{◌≡◌, ◌≤◌, ℕ, None, true, length, IfSome};
+ghost use Rattle.std.specs.Prelude.{◌≡◌, ◌≤◌, ℕ, None, true, length, IfSome, IsTrue};
 ghost use Rattle.mapping.specs.PixelBoxes.{in_box};
 ghost use Rattle.painting.specs.FillStyles.{fill_style_paint, in_inside};
 ghost use Rattle.painting.specs.Counts.{CountsLayer, HasCapacityForLayer};
@@ -10,6 +10,7 @@ ghost use Rattle.painting.specs.SourceRows.{ReadsBox};
 use crate::fill_style::FillStyle;
 use crate::outline_rows::{Part, paint_rows, rule_of};
 use crate::regions::{visible_in, whole_law};
+use crate::row_op::RowOp;
 use crate::row_op_scratch::RowOpScratch;
 use crate::scratch::DrawingScratch;
 use crate::seen_columns::uncut_part;
@@ -43,8 +44,17 @@ pub(crate) fn fill_inside<O: Outline + Copy>(
     let rule = rule_of(paint.modes.fill_mode);
     let mut lines = outline;
     scratch.rows.begin_fill(&mut lines, rule, drawn.rows.from);
-    let painter = paint.painter(drawn.columns);
+    let mut hatch = [RowOp::Nothing; 8];
+    let is_hatch = paint.put_hatch_row_ops(drawn.rows, &mut hatch);
+    let painter = paint.painter(drawn.columns, given(is_hatch, &hatch));
     paint_rows(canvas, scratch, Part::Inside(rule), drawn.rows, &painter);
+}
+
+/// These row operations, if there are any.
+fn given<'p>(are_given: bool, row_ops: &'p [RowOp<'static>]) -> Option<&'p [RowOp<'static>]>
+    ensures { IfSome result (λ given. (given.now ≡ row_ops.now) × IsTrue are_given) }
+{
+    if are_given { Some(row_ops) } else { None }
 }
 
 /// Fills a box. If the style has a source, the box is the one that the source is stretched to. A row of source colours
@@ -67,7 +77,9 @@ pub(crate) fn fill_box(
     if columns.from >= columns.to {
         return;
     }
-    let mut painter = paint.painter(columns);
+    let mut hatch = [RowOp::Nothing; 8];
+    let is_hatch = paint.put_hatch_row_ops(drawn.rows, &mut hatch);
+    let mut painter = paint.painter(columns, given(is_hatch, &hatch));
     let mut kept = None;
     for y in drawn.rows.from..drawn.rows.to {
         painter.columns = uncut_part(columns, y, painter.clip.cut_boxes());

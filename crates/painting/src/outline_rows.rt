@@ -7,7 +7,7 @@ ghost use Rattle.span_fill.specs.Spans.{AreRow};
 ghost use Rattle.painting.specs.Counts.{CountsLayer, HasCapacityForLayer};
 ghost use Rattle.painting.specs.Painted.{PaintsShape};
 ghost use Rattle.painting.specs.Parts.{HasPart, part_has, work_of};
-ghost use Rattle.painting.specs.RowPainters.{ReadsNothing, painter_paint};
+ghost use Rattle.painting.specs.RowPainters.{HasEight, ReadsNothing, painter_paint};
 
 use crate::regions::whole_law;
 use crate::row_painter::RowPainter;
@@ -38,6 +38,7 @@ pub(crate) fn paint_rows(
 )
     requires countable { HasCapacityForLayer canvas.old }
     requires begun { HasPart part span painter.now.clip.now painter.now.columns scratch.old.rows canvas.old }
+    requires eight { HasEight painter.now.row_ops }
     requires alone { ReadsNothing painter.now.row_ops }
     ensures pixels { PaintsShape (painter_paint painter.now) (part_has part scratch.old.rows.lines) canvas.old canvas.new }
     ensures few { CountsLayer canvas.old canvas.new }

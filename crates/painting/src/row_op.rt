@@ -1,22 +1,26 @@
 //! Row operations: how a brush changes the pixels of one row by a raster operation.
 
-ghost use Rattle.std.specs.Prelude.{◌≡◌, ◌≤◌, ◌<◌, ℕ, true, is_some, length, slice_index_or};
+ghost use Rattle.std.specs.Prelude.{◌≡◌, ◌≤◌, ◌<◌, ℕ, None, IfSome, true, is_some, length, slice_index_or};
 ghost use Rattle.mapping.specs.Colours.{black_colour};
 ghost use Rattle.mapping.specs.Mixes.{mixed_by};
+ghost use Rattle.mapping.specs.Pixels.{is_cell};
 ghost use Rattle.mapping.specs.declared.geometry.Colour.{Colour};
 ghost use Rattle.painting.specs.RowOps.{inked, is_inked, mixed_at};
-ghost use Rattle.painting.specs.RowJoins.{AreMade, colours_at, joined_patterns, joined_row, mixed_in, row_has};
+ghost use Rattle.painting.specs.RowJoins.{AreMade, IsJoined, colours_at, joined_patterns, joined_row, mixed_in, row_has};
 ghost use Rattle.painting.specs.Strips.{mixed_cells};
 ghost use Rattle.raster_ops.specs.BrushRows.{row_paint};
 ghost use Rattle.raster_ops.specs.Bytes.{HasBytes};
 ghost use Rattle.raster_ops.specs.TernaryOps.{ternary_colour};
 
 use crate::row_op_scratch::{BLACK, MAX_SIDE, MixScratch};
-use canvas::Splat;
+use canvas::{Splat, Stripes};
 use draw_ops::TernaryOp;
 use mapping::{Colour, Mix};
 use raster_ops::{BrushRow, TernaryMixer, copy_law, gather_pattern, pattern};
 use span_fill::Span;
+
+/// The rows after which a hatch repeats.
+pub(crate) const PERIOD: u32 = 8;
 
 /// The table of the operation that copies the pattern, whatever the old colour.
 const PATCOPY: u8 = 0xf0;
@@ -31,8 +35,8 @@ pub(crate) enum RowOp<'r> {
     Nothing,
     /// Every pixel becomes this colour.
     Full(Splat),
-    /// Every pixel becomes the colour at its column modulo 8.
-    Pattern([Colour; 8]),
+    /// Every pixel becomes the stripes' colour at its column modulo 8.
+    Pattern(Stripes),
     /// Every pixel is mixed.
     Mixed(Mix),
     /// A pixel whose bit, at its column modulo 8, is set in `cells` is mixed by `mix`. Any other is mixed by `gaps`, or
@@ -70,28 +74,38 @@ pub(crate) fn row_op<'r>(
     ensures test { (x : ℕ) → is_inked result x ≡ is_some (row_paint row.now x) }
     ensures row_op { AreMade columns (is_inked result) (inked result) (joined_row operation.op (λ x. black_colour) row.now) }
 {
+    match ungathered_row_op(row, operation) {
+        Some(row_op) => row_op,
+        None => tile_row_op(row, operation, columns, scratch),
+    }
+}
+
+/// The row operation of a brush without a source, unless the brush is a bitmap, whose colours must be gathered first.
+pub(crate) fn ungathered_row_op(
+    row: &BrushRow<'_>,
+    operation: TernaryMixer,
+) -> Option<RowOp<'static>>
+    ensures row_op { IfSome result (IsJoined operation.op row.now) }
+    ensures tiled { result ≡ None → (x : ℕ) → is_some (row_paint row.now x) ≡ true }
+{
     match *row {
-        BrushRow::Nothing => RowOp::Nothing,
-        BrushRow::Solid(colour) => full(operation.mix(colour, BLACK)),
+        BrushRow::Nothing => Some(RowOp::Nothing),
+        BrushRow::Solid(colour) => Some(full(operation.mix(colour, BLACK))),
         BrushRow::Hatched {
             cells,
             colour,
             gaps: None,
-        } => RowOp::Cells {
-            cells,
-            mix: operation.mix(colour, BLACK),
-            gaps: None,
-        },
+        } => Some(cells_only(cells, operation.mix(colour, BLACK))),
         BrushRow::Hatched {
             cells,
             colour,
             gaps: Some(gaps),
-        } => two(
+        } => Some(two(
             cells,
             operation.mix(colour, BLACK),
             operation.mix(gaps, BLACK),
-        ),
-        BrushRow::Tiled(_) => tile_row_op(row, operation, columns, scratch),
+        )),
+        BrushRow::Tiled(_) => None,
     }
 }
 
@@ -222,6 +236,22 @@ pub(crate) fn full(mix: Mix) -> RowOp<'static>
     }
 }
 
+/// A row operation that mixes only the cells.
+fn cells_only(cells: u8, mix: Mix) -> RowOp<'static>
+    ensures test { (x : ℕ) → is_inked result x ≡ is_cell cells x }
+    ensures row_op { (x : ℕ) (old : Colour) → is_inked result x ≡ true → inked result x old ≡ mixed_by mix old }
+{
+    match cells {
+        0 => RowOp::Nothing,
+        0xff => full(mix),
+        _ => RowOp::Cells {
+            cells,
+            mix,
+            gaps: None,
+        },
+    }
+}
+
 /// A row operation that mixes the cells by one mix and the gaps by another. If each mix gives one colour for all old
 /// colours, it writes a pattern.
 fn two(cells: u8, mix: Mix, gaps: Mix) -> RowOp<'static>
@@ -229,7 +259,7 @@ fn two(cells: u8, mix: Mix, gaps: Mix) -> RowOp<'static>
     ensures row_op { (x : ℕ) (old : Colour) → inked result x old ≡ mixed_cells cells mix gaps x old }
 {
     if let (Some(colour), Some(gap)) = (mix.constant(), gaps.constant()) {
-        return RowOp::Pattern(pattern(cells, colour, gap));
+        return RowOp::Pattern(Stripes::new(&pattern(cells, colour, gap)));
     }
     RowOp::Cells {
         cells,

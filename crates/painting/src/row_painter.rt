@@ -7,7 +7,7 @@ ghost use Rattle.span_fill.specs.Spans.{AreApart};
 ghost use Rattle.painting.specs.RowsPainted.{PaintsSpans};
 
 use crate::fill_style::FillStyle;
-use crate::row_op::RowOp;
+use crate::row_op::{PERIOD, RowOp};
 use crate::row_op_scratch::RowOpScratch;
 use crate::strips::put_spans;
 use canvas::Canvas;
@@ -19,6 +19,8 @@ use span_fill::Span;
 pub(crate) enum RowOps<'p, 'd, 'a> {
     /// The same for all rows. It isn't copied for each row.
     Same(RowOp<'static>),
+    /// Eight for a hatch, which repeat by row.
+    Repeated(&'p [RowOp<'static>]),
     /// One for each row, computed from a fill style.
     EachRow(&'p FillStyle<'d, 'a>),
 }
@@ -32,7 +34,7 @@ pub(crate) struct RowPainter<'p, 'd, 'a> {
 }
 
 impl<'p, 'd, 'a> RowPainter<'p, 'd, 'a> {
-    ghost use Rattle.painting.specs.RowPainters.{HoldsRead, painter_paint};
+    ghost use Rattle.painting.specs.RowPainters.{HasEight, HoldsRead, painter_paint};
 
     /// Paints the pixels in the spans of a row. Source colours for this row must have been gathered.
     pub(crate) fn put_row(
@@ -49,6 +51,7 @@ impl<'p, 'd, 'a> RowPainter<'p, 'd, 'a> {
         requires read { HoldsRead self.now.row_ops self.now.columns y scratch.old.sources.value }
         requires order { self.now.columns.from ≤ self.now.columns.to }
         requires end { self.now.columns.to ≤ 8192 }
+        requires eight { HasEight self.now.row_ops }
         ensures painted { PaintsSpans (painter_paint self.now) self.now.columns y spans.now canvas.old canvas.new }
         ensures few { canvas.new.writes ≤ canvas.old.writes + canvas.old.width }
         ensures sources { scratch.new.sources ≡ scratch.old.sources }
@@ -56,6 +59,9 @@ impl<'p, 'd, 'a> RowPainter<'p, 'd, 'a> {
         let cuts = self.clip.cut_boxes();
         match &self.row_ops {
             RowOps::Same(row_op) => put_spans(canvas, row_op, y, spans, cuts),
+            RowOps::Repeated(row_ops) => {
+                put_spans(canvas, &row_ops[(y % PERIOD) as usize], y, spans, cuts);
+            }
             RowOps::EachRow(paint) => {
                 let row_op = paint.new_row(y, self.columns, &*scratch.sources, &mut scratch.mixes);
                 put_spans(canvas, &row_op, y, spans, cuts);

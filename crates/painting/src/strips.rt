@@ -35,7 +35,7 @@ fn put_row_op(canvas: &mut Canvas, row_op: &RowOp<'_>, y: u32, columns: Span)
     match row_op {
         RowOp::Nothing => {}
         RowOp::Full(splat) => canvas.put_swatch(columns.from, columns.to, y, splat),
-        RowOp::Pattern(pattern) => canvas.put_pattern(columns.from, columns.to, y, pattern),
+        RowOp::Pattern(stripes) => canvas.put_stripes(columns.from, columns.to, y, stripes),
         RowOp::Mixed(mix) => canvas.mix_span(columns.from, columns.to, y, *mix),
         RowOp::Cells {
             cells,

@@ -98,6 +98,7 @@ put_row-requires c =
       read = rw inv.row_ops (c.painter-painter.ensures.reads c.uncut_part-painter.result c.loop-y.y _ c.read_row-kept.ensures.read);
       order = part_order;
       end = omega (arith, right, side, part_last);
+      eight = rw inv.row_ops c.painter-painter.ensures.eight;
     }
 
 pub read_row-kept-requires-clause-end : goal.read_row-kept-requires-clause-end

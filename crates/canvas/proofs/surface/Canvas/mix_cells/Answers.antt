@@ -1,20 +1,13 @@
-use Rattle.std.proofs.Common.{◌+◌, ◌-◌, refl, ap, ◌∙◌, arith}
-use Rattle.std.proofs.lemmas.List.{with_items_is}
+use Rattle.std.proofs.Common.{refl, sym}
 use Rattle.mapping.specs.Mixes.{mixed_by}
-use Rattle.canvas.specs.Rows.{row_colours}
-use Rattle.canvas.proofs.CallLemmas.{helped_cells}
-use Rattle.canvas.proofs.FieldLemmas.{lies_inside}
+use Rattle.canvas.specs.Writing.{in_cells}
+use Rattle.canvas.proofs.WritingLawLemmas.{writing_laws}
 use Rattle.canvas.proofs.surface.Canvas.mix_cells.Goals as goal
 
-pub returns-clause-pixels : goal.returns-clause-pixels
-returns-clause-pixels c =
-    helped_cells c.args.y c.args.x_from c.args.x_to c.place-start.result (c.place-start.result + (c.args.x_to - c.args.x_from) - c.place-start.result) c.self.inside.stride c.args.cells c.mix_cells_of-count.result (mixed_by c.args.mix) _ c.args.self.now _ c.deref_mut.result.now c.mix_cells_of-count.new.part c.self.view_is
-    record { order = c.requires.columns; within = c.requires.width; from_first = c.requires.row.from_first; to_last = c.requires.row.to_last }
-    (lies_inside c.self.inside _ c.self.invariant c.deref_mut.ensures.value)
-    c.place-start.ensures
-    (omega arith)
-    c.mix_cells_of-count.auto.part
-    c.mix_cells_of-count.ensures.colours
-    c.mix_cells_of-count.ensures.count
-    (λ long. ap (row_colours c.self.inside.rows c.self.inside.width c.self.inside.stride) (with_items_is c.self.inside.colours _ (long ∙ c.deref_mut.ensures.len)))
-    refl refl refl refl refl
+pub returns-in-Some-clause-pixels : goal.returns-in-Some-clause-pixels
+returns-in-Some-clause-pixels c =
+    let test = in_cells c.args.y c.args.x_from c.args.x_to c.args.cells in
+    writing_laws.same test test (λ x y old. c.in-Some.colour) (λ x y old. mixed_by c.args.mix old) c.args.self.now c.change_cells.new.self c.width.ensures.whole
+    (λ x y held. refl)
+    (λ x y old held t. sym (c.in-Some.ensures.colour old))
+    c.change_cells.ensures.pixels

@@ -1,4 +1,7 @@
-use Rattle.std.proofs.Common.{refl, ◌∙◌}
+use Rattle.std.proofs.Common.{◌≡◌, ◌%◌, arith, get_or, length, refl, ◌∙◌}
+use Rattle.std.proofs.lemmas.List.{get_or_default}
+use Rattle.painting.specs.RowOps.{repeated_row_op}
+use Rattle.painting.specs.declared.row_op.RowOp.TheVariants.{Nothing}
 use Rattle.painting.proofs.row_painter.RowPainter.put_row.Goals as goal
 
 pub returns-in-Same-clause-painted : goal.returns-in-Same-clause-painted
@@ -18,4 +21,16 @@ returns-in-EachRow-clause-painted c =
         colour = λ x old low high i. is_row_op.colour x old low high i ∙ rw c.in-EachRow.is refl;
       };
       painted = rw c.cut_boxes-cuts.ensures at c.put_spans-in-EachRow.ensures.pixels;
+    }
+
+pub returns-in-Repeated-clause-painted : goal.returns-in-Repeated-clause-painted
+returns-in-Repeated-clause-painted c =
+    let row_ops = c.in-Repeated.row_ops.now in
+    let eight : length row_ops ≡ 8 = rw c.in-Repeated.is at c.requires.eight in
+    let given = get_or row_ops (c.args.y % 8) c.index-row_ops-y.result in
+    let is : given ≡ repeated_row_op row_ops c.args.y = get_or_default row_ops (c.args.y % 8) c.index-row_ops-y.result Nothing (omega (arith, eight)) in
+    record {
+      row_op = given;
+      is_row_op = record { test = λ x. rw (c.in-Repeated.is, is) refl; colour = λ x old low high i. rw (c.in-Repeated.is, is) refl };
+      painted = rw c.cut_boxes-cuts.ensures at c.put_spans-in-Repeated.ensures.pixels;
     }
