@@ -11,7 +11,7 @@
 //! - A setting, a raster operation or a hatch always has a value that the standard allows. Each is made from its code
 //!   (`from_code`, by `raster_op_of` and similar definitions) and returns it (`code`).
 //! - A record has each kind of note at most once (`NoteSet`), and a note is counted only under its kind
-//!   (`Notes::count`, `Notes::with`, `Notes::with_all`, `Notes::plus`, `Notes::of`).
+//!   (`Notes::count`, `Notes::with`, `Notes::add_all`, `Notes::plus`, `Notes::of`).
 //! - A source returns its steps in order, each once, and then either nothing or one fault of a record. Every later call
 //!   returns the same again (`OpSource::next_op`, `OpSource::next_into`, by `Gives`). `Listed` is such a source.
 //! - What records of both formats share is decoded here: points, boxes, colours and lists (`rgb_at`, `xy_at`,

@@ -70,14 +70,12 @@ impl Notes {
         Notes { counts }
     }
 
-    /// The counts with one more note of each kind in a set. Most sets are empty.
-    pub fn with_all(self, set: NoteSet) -> Notes
-        ensures { result.counts ≡ added_notes self.counts (notes_in set) }
+    /// Adds one note of each kind in a set. Most sets are empty, and then nothing is added.
+    pub fn add_all(&mut self, set: NoteSet)
+        ensures { self.new.counts ≡ added_notes self.old.counts (notes_in set) }
     {
-        if set.bits == 0 {
-            self.plus(Notes::none())
-        } else {
-            self.plus(Notes::of(set))
+        if set.bits != 0 {
+            *self = self.plus(Notes::of(set));
         }
     }
 }

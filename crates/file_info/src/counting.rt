@@ -112,7 +112,7 @@ fn add_record(
     match decoded {
         Err(fault) => totals.faults.add(Fault::Record(*fault)),
         Ok(step) => {
-            totals.notes = totals.notes.with_all(step.notes);
+            totals.notes.add_all(step.notes);
             match run {
                 Some(fault) => totals.faults.add(Fault::Record(fault)),
                 None => Ok(()),

@@ -60,7 +60,7 @@ pub(crate) fn check_steps<'a, S: OpSource<'a>, T: Table<'a>>(
             Ok(more) => totals.writes += more,
             Err(fault) => return Err(Refusal::at(step.number, fault)),
         }
-        totals.notes = totals.notes.with_all(step.notes);
+        totals.notes.add_all(step.notes);
         totals.records += 1;
     }
 }

@@ -60,7 +60,7 @@ pub(crate) fn gather<'a, S: OpSource<'a>, T: Table<'a>>(
             Ok(more) => totals.writes += more,
             Err(OutOfMemory) => return Err(Refusal::of_file(Fault::OutOfMemory)),
         }
-        totals.notes = totals.notes.with_all(step.notes);
+        totals.notes.add_all(step.notes);
         totals.records += 1;
     }
 }

@@ -40,7 +40,7 @@ loop-is_played-preserved g c =
       order = search (begins, stepped, drawn, rules);
       budget = search (begins, stepped, drawn, rules, budget_then);
       notes = c.loop-is_played.invariant.notes ∙ ap (λ (k : Content). notes_after k.steps counts) begins
-          ∙ ap (λ (n : List ℕ). notes_after rest.steps n) (sym c.with_all-totals.ensures);
+          ∙ ap (λ (n : List ℕ). notes_after rest.steps n) (sym c.add_all.ensures);
       needs = search (begins, stepped, rules);
     }
 

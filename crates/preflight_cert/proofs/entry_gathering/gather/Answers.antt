@@ -92,7 +92,7 @@ loop-is_played-preserved g c =
           (step_fit start (content c.loop-is_played.source) rest step old.state new.state (drawn_by new next.drawn) begins stepped.state drawn here.1 all);
       budget = search (begins, stepped, drawn, rules, budget_then);
       notes = c.loop-is_played.invariant.notes ∙ ap (λ (k : Content). notes_after k.steps counts) begins
-          ∙ ap (λ (n : List ℕ). notes_after rest.steps n) (sym c.with_all-totals.ensures);
+          ∙ ap (λ (n : List ℕ). notes_after rest.steps n) (sym c.add_all.ensures);
       needs = search (begins, stepped, rules);
     }
 
