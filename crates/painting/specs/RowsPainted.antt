@@ -1,6 +1,8 @@
 -- What is painted of a shape, row by row.
 use Rattle.std.specs.Prelude.{◌≡◌, ℕ, ◌≤◌, ◌<◌, Bool, true, ◌&&◌, ◌==◌, nat_lt, List}
+use Rattle.mapping.specs.Mixes.{mixed_by}
 use Rattle.mapping.specs.declared.geometry.Colour.{Colour}
+use Rattle.mapping.specs.declared.mix.Mix.{Mix}
 use Rattle.canvas.specs.CanvasState.{CanvasState}
 use Rattle.canvas.specs.Writing.{Repaints}
 use Rattle.span_fill.specs.Spans.{in_spans}
@@ -22,6 +24,11 @@ paints_row paint shape y column row = paints paint shape column row && row == y
 pub record IsRowOp (paint : PaintValue) (columns : Span) (y : ℕ) (row_op : RowOp) : Type 0 where
   pub test : (x : ℕ) → is_inked row_op x ≡ paint.has x y
   pub colour : (x : ℕ) (old : Colour) → columns.from ≤ x → x < columns.to → is_inked row_op x ≡ true → inked row_op x old ≡ paint.makes x y old
+
+-- a mix of every pixel is what a paint does
+pub record IsSameMix (paint : PaintValue) (mix : Mix) : Type 0 where
+  pub test : (x y : ℕ) → paint.has x y ≡ true
+  pub colour : (x y : ℕ) (old : Colour) → mixed_by mix old ≡ paint.makes x y old
 
 -- a row operation writes the same as a paint does, in every row
 pub record IsSameRowOp (paint : PaintValue) (row_op : RowOp) : Type 0 where

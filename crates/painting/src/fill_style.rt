@@ -17,7 +17,7 @@ use crate::row_op_scratch::{BLACK, MAX_SIDE, MixScratch};
 use crate::row_painter::{RowOps, RowPainter};
 use dc_stack::{Clip, Dc, Machine, Modes};
 use draw_ops::{Brush, TernaryOp};
-use mapping::Colour;
+use mapping::{Colour, Mix};
 use object_tables::Table;
 use raster_ops::{
     BrushRow, SourceReader, TernaryMixer, binary_law, brush_row, ternary_of, uses_pattern,
@@ -38,7 +38,7 @@ pub(crate) struct FillStyle<'d, 'a> {
 impl<'d, 'a> FillStyle<'d, 'a> {
     ghost use Rattle.painting.specs.FillStyles.{fill_style_paint, colour_of};
     ghost use Rattle.painting.specs.RowPainters.{HasEight, ReadsAs, ReadsNothing, painter_paint};
-    ghost use Rattle.painting.specs.RowsPainted.{AreRepeatedRowOps, IsRowOp, IsSameRowOp};
+    ghost use Rattle.painting.specs.RowsPainted.{AreRepeatedRowOps, IsRowOp, IsSameMix, IsSameRowOp};
 
     /// The fill style of a brush in the machine's current state.
     pub(crate) fn with<T: Table<'a>>(
@@ -115,12 +115,22 @@ impl<'d, 'a> FillStyle<'d, 'a> {
         }
     }
 
-    /// The row operation for every row, if there is one: the brush has a single colour and there is no source.
+    /// The row operation for every row, if there is one.
     fn same_row_op(&self) -> Option<RowOp<'static>>
         ensures { IfSome result (IsSameRowOp (fill_style_paint self.now)) }
     {
+        match self.same_mix() {
+            Some(mix) => Some(full(mix)),
+            None => None,
+        }
+    }
+
+    /// The mix for every pixel, if there is one: the brush has a single colour and there is no source.
+    pub(crate) fn same_mix(&self) -> Option<Mix>
+        ensures { IfSome result (IsSameMix (fill_style_paint self.now)) }
+    {
         match (self.brush, self.source) {
-            (Brush::Solid(colour), None) => Some(full(self.operation.mix(colour, BLACK))),
+            (Brush::Solid(colour), None) => Some(self.operation.mix(colour, BLACK)),
             _ => None,
         }
     }

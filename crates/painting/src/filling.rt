@@ -1,12 +1,16 @@
 //! Fills the inside of outlines and boxes, row by row.
 
-ghost use Rattle.std.specs.Prelude.{◌≡◌, ◌≤◌, ℕ, None, true, length, IfSome, IsTrue};
+ghost use Rattle.std.specs.Prelude.{◌≡◌, ◌≤◌, ℕ, [], None, true, length, IfSome, IsTrue};
 ghost use Rattle.mapping.specs.PixelBoxes.{in_box};
+ghost use Rattle.span_fill.specs.RowState.{IsFillingWork};
 ghost use Rattle.painting.specs.FillStyles.{fill_style_paint, in_inside};
+ghost use Rattle.painting.specs.Fills.{MixesShape, is_filled};
+ghost use Rattle.painting.specs.Regions.{HasRegion, IsOfSide};
 ghost use Rattle.painting.specs.Counts.{CountsLayer, HasCapacityForLayer};
 ghost use Rattle.painting.specs.Painted.{PaintsShape};
 ghost use Rattle.painting.specs.SourceRows.{ReadsBox};
 
+use crate::fill_spans::FillSpans;
 use crate::fill_style::FillStyle;
 use crate::outline_rows::{Part, paint_rows, rule_of};
 use crate::regions::{visible_in, whole_law};
@@ -16,8 +20,8 @@ use crate::scratch::DrawingScratch;
 use crate::seen_columns::uncut_part;
 use crate::source_rows::read_row;
 use canvas::{Canvas, writing_law};
-use mapping::Rect;
-use span_fill::Outline;
+use mapping::{Mix, Rect};
+use span_fill::{Outline, Region, RowBuf};
 
 /// Fills the inside of an outline, which lies within a box, by the current fill mode. The style has no source.
 pub(crate) fn fill_inside<O: Outline + Copy>(
@@ -44,6 +48,10 @@ pub(crate) fn fill_inside<O: Outline + Copy>(
     let rule = rule_of(paint.modes.fill_mode);
     let mut lines = outline;
     scratch.rows.begin_fill(&mut lines, rule, drawn.rows.from);
+    if let (Some(mix), true) = (paint.same_mix(), paint.clip.cut_boxes().is_empty()) {
+        mix_inside(canvas, &mut scratch.rows, drawn, mix);
+        return;
+    }
     let mut hatch = [RowOp::Nothing; 8];
     let is_hatch = paint.put_hatch_row_ops(drawn.rows, &mut hatch);
     let painter = paint.painter(drawn.columns, given(is_hatch, &hatch));
@@ -55,6 +63,29 @@ fn given<'p>(are_given: bool, row_ops: &'p [RowOp<'static>]) -> Option<&'p [RowO
     ensures { IfSome result (λ given. (given.now ≡ row_ops.now) × IsTrue are_given) }
 {
     if are_given { Some(row_ops) } else { None }
+}
+
+/// Mixes the pixels of a region that are inside the lines with which a row buffer has begun.
+fn mix_inside(canvas: &mut Canvas, rows: &mut RowBuf, drawn: Region, mix: Mix)
+    requires held { HasRegion canvas.old drawn }
+    requires columns { IsOfSide drawn.columns }
+    requires rows { IsOfSide drawn.rows }
+    requires countable { HasCapacityForLayer canvas.old }
+    requires filling { IsFillingWork rows.old.work }
+    requires next { rows.old.next ≡ drawn.rows.from }
+    requires begun { rows.old.spans ≡ [] }
+    ensures pixels { MixesShape drawn (is_filled rows.old.work rows.old.lines) mix canvas.old canvas.new }
+    ensures capacity { rows.new.capacity ≡ rows.old.capacity }
+{
+    writing_law();
+    whole_law(canvas);
+    let mut spans = FillSpans {
+        rows,
+        columns: drawn.columns,
+        end: drawn.rows.to,
+        returned: 0,
+    };
+    canvas.mix_each_span(&mut spans, mix);
 }
 
 /// Fills a box. If the style has a source, the box is the one that the source is stretched to. A row of source colours
