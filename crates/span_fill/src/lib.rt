@@ -47,6 +47,7 @@ mod insertion;
 mod joining;
 mod laws;
 mod line;
+mod lone_pair;
 mod major_line;
 mod mask_frame;
 mod mask_marks;

@@ -10,7 +10,7 @@ use Rattle.painting.specs.Joined.{joined_if}
 use Rattle.painting.specs.declared.row_op.RowOp.{RowOp}
 use Rattle.painting.specs.declared.row_op.RowOp.TheVariants.{Nothing}
 use Rattle.painting.proofs.HatchLemmas.{IsRowOpOf, hatch_repeats}
-use Rattle.painting.proofs.fill_style.FillStyle.put_hatch_row_ops.Goals as goal
+use Rattle.painting.proofs.fill_style.FillStyle.hatch_row_ops.Goals as goal
 
 pub loop-y-preserved : goal.loop-y-preserved
 loop-y-preserved c =
