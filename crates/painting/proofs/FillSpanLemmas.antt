@@ -1,5 +1,5 @@
 -- What remains of a fill after each step.
-use Rattle.std.proofs.Common.{◌≡◌, ℕ, zero, suc, ⊥, ◌+◌, ◌-◌, ◌*◌, ◌<◌, ◌≤◌, Bool, true, false, ◌&&◌, ◌||◌, ◌==◌, not, nat_le, nat_lt, inl, inr, List, [], ◌∷◌, length, drop, get_or, refl, sym, ap, subst, ◌∙◌, arith}
+use Rattle.std.proofs.Common.{◌≡◌, ℕ, zero, suc, ◌+◌, ◌-◌, ◌*◌, ◌<◌, ◌≤◌, Bool, true, false, ◌&&◌, ◌||◌, ◌==◌, not, nat_le, nat_lt, inl, inr, List, [], ◌∷◌, length, drop, get_or, refl, sym, ap, subst, ◌∙◌, arith}
 use Rattle.std.proofs.lemmas.Bool.{and_parts, and_right, cases_eq, cases_lt, eq-eqb, false_from_ne_true, le-leb, lt-leb, lt-ltb, ne_eqb, true≢false}
 use Rattle.std.proofs.lemmas.Bool.Decides.{nat_tests}
 use Rattle.std.proofs.lemmas.List.{drop_more, drop_all}
@@ -99,7 +99,7 @@ module _ (rows new : RowState) (columns : Span) (end returned : ℕ) (all : leng
   same_remain x y =
       let work = same.work in
       let lines = same.lines in
-      let none : drop returned rows.spans ≡ [] = drop_all rows.spans returned all in
+      let none : drop returned rows.spans ≡ [] = drop_all returned rows.spans all in
       let here = row_listed rows.work rows.lines rows.next columns new.spans x is fills in
       rw (next, work, lines, none, here) (row_first rows.next end y (in_span columns x) (λ y. is_filled rows.work rows.lines x y) more ∙ sym (ap (λ (b : Bool). b || _) (and_right _ _ refl)))
 

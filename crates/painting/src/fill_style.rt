@@ -14,7 +14,7 @@ ghost use Rattle.painting.specs.SourceRows.{HoldsRow};
 
 use crate::row_op::{PERIOD, RowOp, full, hatched_row_op, row_op, source_row_op};
 use crate::row_op_scratch::{BLACK, MAX_SIDE, MixScratch};
-use crate::row_painter::{RowOps, RowPainter};
+use crate::row_painter::{HatchRows, RowOps, RowPainter};
 use dc_stack::{Clip, Dc, Machine, Modes};
 use draw_ops::{Brush, TernaryOp};
 use mapping::Colour;
@@ -93,10 +93,10 @@ impl<'d, 'a> FillStyle<'d, 'a> {
     pub(crate) fn painter<'p>(
         &'p self,
         columns: Span,
-        hatch: Option<&'p [RowOp<'static>]>,
+        hatch: Option<&'p HatchRows>,
     ) -> RowPainter<'p, 'd, 'a>
-        requires eight { IfSome hatch (λ row_ops. length row_ops.now ≡ 8) }
-        requires hatch { IfSome hatch (λ row_ops. AreRepeatedRowOps (fill_style_paint self.now) row_ops.now) }
+        requires eight { IfSome hatch (λ rows. length rows.now.row_ops ≡ 8) }
+        requires hatch { IfSome hatch (λ rows. AreRepeatedRowOps (fill_style_paint self.now) rows.now.row_ops) }
         ensures paint { SamePaint (painter_paint result) (fill_style_paint self.now) }
         ensures columns { result.columns ≡ columns }
         ensures clip { result.clip.now ≡ self.now.clip.now }
@@ -106,7 +106,7 @@ impl<'d, 'a> FillStyle<'d, 'a> {
     {
         let row_ops = match (self.same_row_op(), hatch) {
             (Some(row_op), _) => RowOps::Same(row_op),
-            (None, Some(row_ops)) => RowOps::Repeated(row_ops),
+            (None, Some(rows)) => RowOps::Repeated(rows),
             (None, None) => RowOps::EachRow(self),
         };
         RowPainter {
@@ -137,9 +137,9 @@ impl<'d, 'a> FillStyle<'d, 'a> {
     }
 
     /// The row operations of a hatch without a source, if there are enough rows to use each of them.
-    pub(crate) fn hatch_row_ops(&self, rows: Span) -> Option<[RowOp<'static>; 8]>
-        ensures eight { IfSome result (λ row_ops. length row_ops ≡ 8) }
-        ensures repeated { IfSome result (AreRepeatedRowOps (fill_style_paint self.now)) }
+    pub(crate) fn hatch_rows(&self, rows: Span) -> Option<HatchRows>
+        ensures eight { IfSome result (λ hatch. length hatch.row_ops ≡ 8) }
+        ensures repeated { IfSome result (λ hatch. AreRepeatedRowOps (fill_style_paint self.now) hatch.row_ops) }
     {
         let (Brush::Hatched { hatch, colour }, None) = (self.brush, self.source) else {
             return None;
@@ -153,7 +153,7 @@ impl<'d, 'a> FillStyle<'d, 'a> {
             let cells = hatch_cells(hatch, y);
             row_ops[y as usize] = hatched_row_op(cells, colour, gaps, self.operation);
         }
-        Some(row_ops)
+        Some(HatchRows { row_ops })
     }
 
     /// The row operation for some columns of a row. The source colours of these columns must have been gathered.

@@ -14,7 +14,6 @@ use crate::fill_spans::FillSpans;
 use crate::fill_style::FillStyle;
 use crate::outline_rows::{Part, paint_rows, rule_of};
 use crate::regions::{visible_in, whole_law};
-use crate::row_op::RowOp;
 use crate::row_op_scratch::RowOpScratch;
 use crate::scratch::DrawingScratch;
 use crate::seen_columns::uncut_part;
@@ -52,19 +51,9 @@ pub(crate) fn fill_inside<O: Outline + Copy>(
         put_inside(canvas, &mut scratch.rows, drawn, colour);
         return;
     }
-    let hatch = paint.hatch_row_ops(drawn.rows);
-    let painter = paint.painter(drawn.columns, borrowed(&hatch));
+    let hatch = paint.hatch_rows(drawn.rows);
+    let painter = paint.painter(drawn.columns, hatch.as_ref());
     paint_rows(canvas, scratch, Part::Inside(rule), drawn.rows, &painter);
-}
-
-/// Row operations as a slice, if there are any.
-fn borrowed<'p>(row_ops: &'p Option<[RowOp<'static>; 8]>) -> Option<&'p [RowOp<'static>]>
-    ensures { IfSome result (λ given. row_ops.now ≡ Some given.now) }
-{
-    match row_ops {
-        Some(row_ops) => Some(row_ops),
-        None => None,
-    }
 }
 
 /// Writes the pixels of a region in one colour that are inside the lines with which a row buffer has begun.
@@ -110,8 +99,8 @@ pub(crate) fn fill_box(
     if columns.from >= columns.to {
         return;
     }
-    let hatch = paint.hatch_row_ops(drawn.rows);
-    let mut painter = paint.painter(columns, borrowed(&hatch));
+    let hatch = paint.hatch_rows(drawn.rows);
+    let mut painter = paint.painter(columns, hatch.as_ref());
     let mut kept = None;
     for y in drawn.rows.from..drawn.rows.to {
         painter.columns = uncut_part(columns, y, painter.clip.cut_boxes());

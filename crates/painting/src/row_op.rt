@@ -14,7 +14,7 @@ ghost use Rattle.raster_ops.specs.TernaryOps.{ternary_colour};
 ghost use Rattle.raster_ops.specs.declared.rows.BrushRow.TheVariants.{Hatched};
 
 use crate::row_op_scratch::{BLACK, MAX_SIDE, MixScratch};
-use canvas::{Splat, Stripes};
+use canvas::Splat;
 use draw_ops::TernaryOp;
 use mapping::{Colour, Mix};
 use raster_ops::{BrushRow, TernaryMixer, copy_law, gather_pattern, pattern};
@@ -37,7 +37,7 @@ pub(crate) enum RowOp<'r> {
     /// Every pixel becomes this colour.
     Full(Splat),
     /// Every pixel becomes the stripes' colour at its column modulo 8.
-    Pattern(Stripes),
+    Pattern([Colour; 8]),
     /// Every pixel is mixed.
     Mixed(Mix),
     /// A pixel whose bit, at its column modulo 8, is set in `cells` is mixed by `mix`. Any other is mixed by `gaps`, or
@@ -253,7 +253,7 @@ fn two(cells: u8, mix: Mix, gaps: Mix) -> RowOp<'static>
     ensures row_op { (x : ℕ) (old : Colour) → inked result x old ≡ mixed_cells cells mix gaps x old }
 {
     if let (Some(colour), Some(gap)) = (mix.constant(), gaps.constant()) {
-        return RowOp::Pattern(Stripes::new(&pattern(cells, colour, gap)));
+        return RowOp::Pattern(pattern(cells, colour, gap));
     }
     RowOp::Cells {
         cells,
