@@ -12,7 +12,8 @@ use Rattle.span_fill.specs.Spans.{AreApart, AreRow, in_region, in_span, in_spans
 use Rattle.span_fill.specs.declared.line.Line.{Line}
 use Rattle.span_fill.specs.declared.span.Region.{Region}
 use Rattle.span_fill.specs.declared.span.Span.{Span}
-use Rattle.painting.specs.FillSpans.{in_latest, in_later, remains, spans_left}
+use Rattle.painting.specs.FillSpans.{EndsFill, in_latest, in_later, remains, spans_left}
+use Rattle.painting.specs.declared.fill_spans.FillSpans.{FillSpans}
 use Rattle.painting.specs.Fills.{AreSeparateFrom, is_filled, is_filling, no_columns}
 use Rattle.painting.proofs.RowLemmas.{spans_are, within_ends}
 use Rattle.painting.proofs.TestLemmas.{column_true}
@@ -101,7 +102,8 @@ module _ (rows new : RowState) (columns : Span) (end returned : ℕ) (all : leng
       let lines = same.lines in
       let none : drop returned rows.spans ≡ [] = drop_all returned rows.spans all in
       let here = row_listed rows.work rows.lines rows.next columns new.spans x is fills in
-      rw (next, work, lines, none, here) (row_first rows.next end y (in_span columns x) (λ y. is_filled rows.work rows.lines x y) more ∙ sym (ap (λ (b : Bool). b || _) (and_right _ _ refl)))
+      let gone : (suc y == rows.next && false) ≡ false = and_right (suc y == rows.next) false refl in
+      rw (next, work, lines, none, here, gone) (row_first rows.next end y (in_span columns x) (λ y. is_filled rows.work rows.lines x y) more)
 
   -- a row of at most 8,192 spans comes in place of itself
   pub listed_less : columns.from ≤ columns.to → columns.to ≤ 8192 → spans_left new end 0 < spans_left rows end returned
@@ -121,3 +123,28 @@ pub all_remain : (rows : RowState) (region : Region) → rows.spans ≡ [] → r
 all_remain rows region none first x y =
     rw (none, first, and_right (suc y == region.rows.from) false refl)
     (tests_ordered (in_span region.rows y) (in_span region.columns x) (is_filled rows.work rows.lines x y))
+
+no_row : (next end y : ℕ) → end ≤ next → (nat_le next y && nat_lt y end) ≡ false
+no_row next end y over = grind (arith, nat_tests, over)
+
+-- after the last row, and the last span of the latest one, no pixel remains
+pub none_remain : (rows : RowState) (columns : Span) (end returned : ℕ) → (nat_lt returned (length rows.spans) || nat_lt rows.next end) ≡ false → (x y : ℕ) → remains rows columns end returned x y ≡ false
+none_remain rows columns end returned none x y =
+    let all : length rows.spans ≤ returned = grind (arith, nat_tests, none) in
+    let over : end ≤ rows.next = grind (arith, nat_tests, none) in
+    let listed : drop returned rows.spans ≡ [] = drop_all returned rows.spans all in
+    let gone : (suc y == rows.next && false) ≡ false = and_right (suc y == rows.next) false refl in
+    rw (listed, gone, no_row rows.next end y over) refl
+
+-- a span that is returned of the pixels that remain after some steps is one of those that remained before
+pub gives_from : (old now new : ℕ → ℕ → Bool) (before between after : ℕ) (span : RowSpan) → ((x y : ℕ) → now x y ≡ old x y) → between ≤ before → GivesSpan now new between after span → GivesSpan old new before after span
+gives_from old now new before between after span same least gives =
+    let less = gives.less in
+    record {
+      given = λ x y h. sym (same x y) ∙ gives.given x y h;
+      others = λ x y. gives.others x y ∙ ap (λ (b : Bool). b && not (in_row_span span.y span.from span.to x y)) (same x y);
+      less = omega (arith, less, least);
+    }
+
+pub ends_after : (start between end : FillSpans) → EndsFill start between → EndsFill between end → EndsFill start end
+ends_after start between end one other = record { same = other.same ∙ one.same; capacity = other.capacity ∙ one.capacity }
