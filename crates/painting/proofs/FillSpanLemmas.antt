@@ -12,8 +12,7 @@ use Rattle.span_fill.specs.Spans.{AreApart, AreRow, in_region, in_span, in_spans
 use Rattle.span_fill.specs.declared.line.Line.{Line}
 use Rattle.span_fill.specs.declared.span.Region.{Region}
 use Rattle.span_fill.specs.declared.span.Span.{Span}
-use Rattle.painting.specs.FillSpans.{EndsFill, in_latest, in_later, remains, spans_left}
-use Rattle.painting.specs.declared.fill_spans.FillSpans.{FillSpans}
+use Rattle.painting.specs.FillSpans.{remains, spans_left}
 use Rattle.painting.specs.Fills.{AreSeparateFrom, is_filled, is_filling, no_columns}
 use Rattle.painting.proofs.RowLemmas.{spans_are, within_ends}
 use Rattle.painting.proofs.TestLemmas.{column_true}
@@ -128,23 +127,8 @@ no_row : (next end y : ℕ) → end ≤ next → (nat_le next y && nat_lt y end)
 no_row next end y over = grind (arith, nat_tests, over)
 
 -- after the last row, and the last span of the latest one, no pixel remains
-pub none_remain : (rows : RowState) (columns : Span) (end returned : ℕ) → (nat_lt returned (length rows.spans) || nat_lt rows.next end) ≡ false → (x y : ℕ) → remains rows columns end returned x y ≡ false
-none_remain rows columns end returned none x y =
-    let all : length rows.spans ≤ returned = grind (arith, nat_tests, none) in
-    let over : end ≤ rows.next = grind (arith, nat_tests, none) in
+pub none_remain : (rows : RowState) (columns : Span) (end returned : ℕ) → length rows.spans ≤ returned → end ≤ rows.next → (x y : ℕ) → remains rows columns end returned x y ≡ false
+none_remain rows columns end returned all over x y =
     let listed : drop returned rows.spans ≡ [] = drop_all returned rows.spans all in
     let gone : (suc y == rows.next && false) ≡ false = and_right (suc y == rows.next) false refl in
     rw (listed, gone, no_row rows.next end y over) refl
-
--- a span that is returned of the pixels that remain after some steps is one of those that remained before
-pub gives_from : (old now new : ℕ → ℕ → Bool) (before between after : ℕ) (span : RowSpan) → ((x y : ℕ) → now x y ≡ old x y) → between ≤ before → GivesSpan now new between after span → GivesSpan old new before after span
-gives_from old now new before between after span same least gives =
-    let less = gives.less in
-    record {
-      given = λ x y h. sym (same x y) ∙ gives.given x y h;
-      others = λ x y. gives.others x y ∙ ap (λ (b : Bool). b && not (in_row_span span.y span.from span.to x y)) (same x y);
-      less = omega (arith, less, least);
-    }
-
-pub ends_after : (start between end : FillSpans) → EndsFill start between → EndsFill between end → EndsFill start end
-ends_after start between end one other = record { same = other.same ∙ one.same; capacity = other.capacity ∙ one.capacity }

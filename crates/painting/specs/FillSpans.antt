@@ -1,7 +1,5 @@
 -- The remaining spans of a fill.
-use Rattle.std.specs.Prelude.{◌≡◌, ℕ, suc, ◌+◌, ◌-◌, ◌*◌, ◌<◌, Bool, ◌&&◌, ◌||◌, ◌==◌, nat_le, nat_lt, drop, length, Option, Some, None}
-use Rattle.canvas.specs.SpanSources.{GivesSpan}
-use Rattle.canvas.specs.declared.span_source.RowSpan.{RowSpan}
+use Rattle.std.specs.Prelude.{◌≡◌, ℕ, suc, ◌+◌, ◌-◌, ◌*◌, Bool, ◌&&◌, ◌||◌, ◌==◌, nat_le, nat_lt, drop, length}
 use Rattle.span_fill.specs.RowState.{RowState}
 use Rattle.span_fill.specs.Spans.{in_span, in_spans}
 use Rattle.span_fill.specs.declared.span.Span.{Span}
@@ -23,10 +21,6 @@ remains rows columns end returned x y = in_latest rows returned x y || in_later 
 abbrev pub is_to_come : FillSpans → ℕ → ℕ → Bool
 is_to_come fill = remains fill.rows.now fill.columns fill.end fill.returned
 
--- a span or a row remains
-abbrev pub has_more : FillSpans → Bool
-has_more fill = nat_lt fill.returned (length fill.rows.now.spans) || nat_lt fill.rows.now.next fill.end
-
 -- a bound on the number of remaining spans, if each row of a surface has at most 8,192
 abbrev pub spans_left : RowState → ℕ → ℕ → ℕ
 spans_left rows end returned = 8193 * (end - rows.next) + (length rows.spans - returned)
@@ -38,19 +32,3 @@ steps_left fill = spans_left fill.rows.now fill.end fill.returned
 pub record EndsFill (start end : FillSpans) : Type 0 where
   pub same : end.rows.ghost_name ≡ start.rows.ghost_name
   pub capacity : end.rows.now.capacity ≡ start.rows.now.capacity
-
--- a span is returned
-pub record ReturnsSpan (old : FillSpans) (span : RowSpan) (new : FillSpans) : Type 0 where
-  pub gives : GivesSpan (is_to_come old) (is_to_come new) (steps_left old) (steps_left new) span
-  pub end : EndsFill old new
-
--- the spans of the next row were computed: the same pixels remain
-pub record ListsRow (old new : FillSpans) : Type 0 where
-  pub same : (x y : ℕ) → is_to_come new x y ≡ is_to_come old x y
-  pub less : steps_left new < steps_left old
-  pub end : EndsFill old new
-
--- a span is returned, or only the row at hand has changed
-abbrev pub TakesStep : FillSpans → Option RowSpan → FillSpans → Type 0
-TakesStep old None new = ListsRow old new
-TakesStep old (Some span) new = ReturnsSpan old span new

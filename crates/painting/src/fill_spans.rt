@@ -3,7 +3,7 @@
 ghost use Rattle.std.specs.Prelude.{◌≡◌, ◌<◌, ◌≤◌, IsTrue, length, true};
 ghost use Rattle.painting.specs.Fills.{AreSeparateFrom, is_filling};
 
-use canvas::{RowSpan, SpanSource};
+use canvas::{RowSpan, SpanSource, SpanStep};
 use span_fill::{RowBuf, Span};
 
 /// The remaining spans of a fill, in some columns of a surface and in the rows to before `end`.
@@ -28,38 +28,6 @@ pub(crate) struct FillSpans<'r> {
     pub(crate) ghost latest: { returned < length rows.now.spans → 1 ≤ rows.now.next },
 }
 
-impl<'r> FillSpans<'r> {
-    ghost use Rattle.painting.specs.FillSpans.{TakesStep, has_more};
-
-    /// Whether a span or a row remains.
-    #[inline]
-    fn has_more(&self) -> bool
-        ensures { result ≡ has_more self.now }
-    {
-        self.returned < self.rows.spans().len() || self.rows.next_row() < self.end
-    }
-
-    /// Returns the next span of the latest row, or else the only span of the next row. If that row has several, their
-    /// list is computed, and nothing is returned.
-    #[inline]
-    fn step(&mut self) -> Option<RowSpan>
-        requires { IsTrue (has_more self.old) }
-        ensures { TakesStep self.old result self.new }
-    {
-        let y = self.rows.next_row();
-        if let Some(span) = self.rows.spans().get(self.returned) {
-            self.returned += 1;
-            return Some(in_row(y - 1, *span));
-        }
-        if let Some(span) = self.rows.next_lone_span(self.columns) {
-            return Some(in_row(y, span));
-        }
-        self.rows.next_fill(self.columns);
-        self.returned = 0;
-        None
-    }
-}
-
 impl<'r> SpanSource for FillSpans<'r> {
     ghost use Rattle.painting.specs.FillSpans.{EndsFill, is_to_come, steps_left};
 
@@ -69,14 +37,24 @@ impl<'r> SpanSource for FillSpans<'r> {
 
     ghost ends_as = { EndsFill };
 
+    /// Returns the next span of the latest row, or else the only span of the next row. If that row has several, their
+    /// list is computed, and nothing is returned.
     #[inline]
-    fn next_span(&mut self) -> Option<RowSpan> {
-        while self.has_more() {
-            if let Some(span) = self.step() {
-                return Some(span);
-            }
+    fn step(&mut self) -> SpanStep {
+        let y = self.rows.next_row();
+        if let Some(span) = self.rows.spans().get(self.returned) {
+            self.returned += 1;
+            return SpanStep::Span(in_row(y - 1, *span));
         }
-        None
+        if y >= self.end {
+            return SpanStep::End;
+        }
+        if let Some(span) = self.rows.next_lone_span(self.columns) {
+            return SpanStep::Span(in_row(y, span));
+        }
+        self.rows.next_fill(self.columns);
+        self.returned = 0;
+        SpanStep::Nothing
     }
 }
 

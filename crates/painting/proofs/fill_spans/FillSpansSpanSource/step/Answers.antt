@@ -5,19 +5,16 @@ use Rattle.std.proofs.lemmas.List.{get_or_read}
 use Rattle.painting.specs.Fills.{is_filling, no_columns}
 use Rattle.span_fill.specs.RowState.{FillsRow, RowState, SameWork}
 use Rattle.span_fill.specs.declared.span.Span.{Span}
-use Rattle.painting.proofs.FillSpanLemmas.{apart_separate, listed_less, returns_listed, row_apart, same_remain}
-use Rattle.painting.proofs.fill_spans.FillSpans.step.Goals as goal
+use Rattle.painting.proofs.FillSpanLemmas.{apart_separate, listed_less, none_remain, returns_listed, row_apart, same_remain}
+use Rattle.painting.proofs.fill_spans.FillSpansSpanSource.step.Goals as goal
 
-pub returns-in-Some : goal.returns-in-Some
-returns-in-Some c =
+pub returns-in-Some-clause-span : goal.returns-in-Some-clause-span
+returns-in-Some-clause-span c =
     let old = c.args.self.now in
     let same = c.spans.ensures in
     let there : old.returned < length old.rows.now.spans = subst (λ (spans : List Span). old.returned < length spans) same (ltb-true _ _ (sym c.in-Some.ensures.lookup.0)) in
     let at : c.in-Some.span.now ≡ get_or old.rows.now.spans old.returned no_columns = get_or_read old.rows.now.spans old.returned c.in-Some.span.now there (subst (λ (spans : List Span). c.in-Some.span.now ≡ get_or spans old.returned c.in-Some.span.now) same c.in-Some.ensures.lookup.1) no_columns in
-    record {
-      gives = returns_listed old.rows.now old.columns old.end old.returned there old.separate (old.latest there) c.in_row.result (c.in_row.ensures.y ∙ ap (λ n. n - 1) c.next_row-y.ensures) (c.in_row.ensures.from ∙ ap (λ (s : Span). s.from) at) (c.in_row.ensures.to ∙ ap (λ (s : Span). s.to) at);
-      end = record { same = search rules; capacity = search rules };
-    }
+    returns_listed old.rows.now old.columns old.end old.returned there old.separate (old.latest there) c.in_row.result (c.in_row.ensures.y ∙ ap (λ n. n - 1) c.next_row-y.ensures) (c.in_row.ensures.from ∙ ap (λ (s : Span). s.from) at) (c.in_row.ensures.to ∙ ap (λ (s : Span). s.to) at)
 
 pub invariant_of-self-2 : goal.invariant_of-self-2
 invariant_of-self-2 c =
@@ -36,8 +33,8 @@ invariant_of-self-2 c =
       latest = λ some. omega (arith, next);
     }
 
-pub returns : goal.returns
-returns c =
+pub returns-clause-span : goal.returns-clause-span
+returns-clause-span c =
     let old = c.args.self.now in
     let rows = old.rows.now in
     let listed = c.next_fill.new.self in
@@ -47,10 +44,16 @@ returns c =
     let same : SameWork rows listed = rw back at c.next_fill.ensures.same in
     let none = c.in_default.ensures.lookup.0 in
     let all : length rows.spans ≤ old.returned = subst (λ (spans : List Span). length spans ≤ old.returned) c.spans.ensures (grind (arith, nat_tests, none)) in
-    let has = c.requires in
-    let more : rows.next < old.end = grind (arith, nat_tests, has, all) in
+    let more : rows.next < old.end = subst (λ n. n < old.end) c.next_row-y.ensures c.if-y-self.false in
     record {
       same = same_remain rows listed old.columns old.end old.returned all more old.filling fills next same;
       less = listed_less rows listed old.columns old.end old.returned all more old.filling fills next same old.order old.side;
-      end = record { same = search rules; capacity = same.capacity };
     }
+
+pub returns-then-y-self-clause-span : goal.returns-then-y-self-clause-span
+returns-then-y-self-clause-span c =
+    let old = c.args.self.now in
+    let none = c.in_default.ensures.lookup.0 in
+    let all : length old.rows.now.spans ≤ old.returned = subst (λ (spans : List Span). length spans ≤ old.returned) c.spans.ensures (grind (arith, nat_tests, none)) in
+    let over : old.end ≤ old.rows.now.next = subst (λ n. old.end ≤ n) c.next_row-y.ensures c.if-y-self.true in
+    none_remain old.rows.now old.columns old.end old.returned all over
