@@ -80,11 +80,12 @@ can_link() {
 
 # A folder for what is linked, which is removed in the end, after a signal too.
 take_folder() {
-    linked=$(mktemp -d) || exit 3
+    linked=
     trap 'rm -rf -- "$linked"' EXIT
     trap 'exit 130' INT
     trap 'exit 143' TERM
     trap 'exit 129' HUP
+    linked=$(mktemp -d) || exit 3
 }
 
 # The program and the library are built first, so that nothing is installed if one of them can't be.

@@ -25,6 +25,27 @@ HELD_LINE = b"metaplay: HeldObject at record 5\n"
 # What `check-file` writes where the program rejects that file without a word.
 NO_FAULT = b'{"accepted":false,"file":"held file.wmf","said":"metaplay prepare reported no fault"}\n'
 
+# A program that takes long, and leaves its process id.
+SLOW = "#!/bin/sh\necho $$ >process; exec sleep 60\n"
+
+
+def waited(test):
+    """Whether this becomes true within some seconds."""
+    for _ in range(1000):
+        if test():
+            return True
+        time.sleep(0.01)
+    return False
+
+
+def is_running(process):
+    """Whether there is a process with this id."""
+    try:
+        os.kill(process, 0)
+    except ProcessLookupError:
+        return False
+    return True
+
 
 def has_command(name):
     """Whether the built program has a command."""
@@ -145,25 +166,28 @@ class Recipes(unittest.TestCase):
             told = self.run_words(*job[:-1], f"metaplay-seconds={seconds}", "dot.wmf", **settings)
             self.assertEqual(told, (1, b"", b"ERROR: metaplay-seconds is a number from 1 to 99999\n"))
 
+    def test_a_signal_to_the_shell_alone_ends_it_and_the_program(self):
+        program, rooms, process = self.folder / "slow", self.folder / "rooms", self.folder / "process"
+        program.write_text(SLOW)
+        program.chmod(0o755)
+        rooms.mkdir()
+        settings = {**os.environ, "METAPLAY": str(program), "TMPDIR": str(rooms)}
+        for words in (["metaplaytopnm", "7", "somebody", "a title", "1", "", "dot.wmf"], ["to-png", "dot.wmf", "4", "4"]):
+            process.unlink(missing_ok=True)
+            with subprocess.Popen([RECIPES / words[0], *words[1:]], cwd=self.folder, env=settings, start_new_session=True) as running:
+                self.assertTrue(waited(lambda: process.exists() and process.read_text().endswith("\n")))
+                running.send_signal(signal.SIGTERM)
+                self.assertEqual(running.wait(timeout=30), 143)
+            self.assertTrue(waited(lambda: not is_running(int(process.read_text()))))
+            self.assertEqual(list(rooms.iterdir()), [])
+
     def test_the_filter_of_cups_ends_in_time(self):
         program = self.folder / "slow"
-        program.write_text("#!/bin/sh\necho began >&2; exec sleep 60\n")
+        program.write_text(SLOW)
         program.chmod(0o755)
         job = [RECIPES / "metaplaytopnm", "7", "somebody", "a title", "1"]
         told = self.run_words(*job, "metaplay-seconds=1", "dot.wmf", METAPLAY=str(program))
         self.assertEqual(told, (1, b"", b"ERROR: the file takes more than 1 seconds\n"))
-        # A signal to the shell alone ends it and the program.
-        rooms = self.folder / "rooms"
-        rooms.mkdir()
-        settings = {**os.environ, "METAPLAY": str(program), "TMPDIR": str(rooms)}
-        with subprocess.Popen([*map(str, job), "", "dot.wmf"], cwd=self.folder, env=settings, start_new_session=True) as running:
-            for _ in range(1000):
-                if any(it.read_bytes() for it in rooms.glob("*/said")):
-                    break
-                time.sleep(0.01)
-            running.send_signal(signal.SIGTERM)
-            self.assertEqual(running.wait(timeout=30), 143)
-        self.assertEqual(list(rooms.iterdir()), [])
         # A program that ends without a word.
         program.write_text("#!/bin/sh\nexit 9\n")
         told = self.run_words(*job, "", "dot.wmf", METAPLAY=str(program))
@@ -187,7 +211,11 @@ class Recipes(unittest.TestCase):
         # A certificate for smaller surfaces than those that are asked for.
         status, out, _ = self.run_words(RECIPES / "check-file", "64", "65", "dot.wmf")
         self.assertEqual((status, json.loads(out)["said"]), (1, "the certificate is for surfaces up to 64 by 64"))
-        self.assertEqual(self.run_words(RECIPES / "check-file", "63", "64", "dot.wmf")[0], 0)
+        self.assertEqual(self.run_words(RECIPES / "check-file", "63", "0064", "dot.wmf")[0], 0)
+        for side in ("0", "8193", "10000", "6x", "-1", ""):
+            told = self.run_words(RECIPES / "check-file", "64", side, "dot.wmf")
+            self.assertEqual(told, (1, b"", b"check-file: W and H are numbers from 1 to 8192\n"))
+        self.assertEqual(self.run_words(RECIPES / "check-file", "64", "64"), (1, b"", b"check-file: usage: check-file W H FILE\n"))
         # Other faults, and a file that isn't there.
         (self.folder / "text.wmf").write_bytes(WMF.file([WMF.record(0x0A32)], 8, 0))
         for name, code, fault, number, record in [("metaplay", 2, "NotMetafile", None, None), ("text.wmf", 15, "Unsupported", 0x0A32, 0)]:
@@ -294,6 +322,8 @@ class Recipes(unittest.TestCase):
         status, out, err = self.run_words("sh", "-c", f"cd below && {RECIPES / 'pre-commit'}")
         self.assertEqual((status, out), (1, b""))
         self.assertTrue(err.startswith(HELD_LINE + "pre-commit: rejected: a\\n::b?[1m??ä.wmf\n".encode()), err)
+        told = self.run_words(RECIPES / "pre-commit", ".")
+        self.assertEqual(told, (1, b"", b"metaplay: cannot read\npre-commit: not checked, because metaplay ended with status 3: .\n"))
         status, _, err = self.run_words(RECIPES / "pre-commit", "no\x1bfile")
         self.assertEqual((status, err), (1, b"pre-commit: cannot read: no?file\n"))
 
