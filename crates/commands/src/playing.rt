@@ -11,8 +11,8 @@ use player::play_bands_to;
 use preflight_cert::{Cleared, Refusal};
 use std::alloc::Global;
 
-/// The most pixels of a band, unless the fewest rows have more. They take 3 MiB.
-const MOST_PIXELS: u64 = 1 << 20;
+/// The most pixels of a band, unless the fewest rows have more. They take 1.5 MiB.
+const MOST_PIXELS: u64 = 1 << 19;
 
 /// The fewest pixels of a band, if the surface has that many.
 const FEWEST_PIXELS: u64 = 1 << 16;
@@ -20,9 +20,8 @@ const FEWEST_PIXELS: u64 = 1 << 16;
 /// The fewest rows of a band.
 const FEWEST_ROWS: u32 = 8;
 
-/// Reading this many records and lines again, in all bands together, takes less time than the first access to 3 MiB of
-/// memory.
-const LITTLE_WORK: u64 = 1 << 12;
+/// Reading this many records and lines again, in all bands together, takes less time than small bands save.
+const LITTLE_WORK: u64 = 1 << 16;
 
 /// Going through this many bytes of a file takes no longer than one record.
 const BYTES_A_RECORD: usize = 16;
