@@ -18,8 +18,8 @@ use proportions::Sides;
 use std::alloc::Global;
 use std::marker::{Brand, PhantomData};
 
-/// The most pixels of a band. They take 1.5 MiB, which mostly stay in the processor's cache.
-const BAND_PIXELS: u32 = 1 << 19;
+/// The most pixels of a band. They take 3 MiB.
+const BAND_PIXELS: u32 = 1 << 20;
 
 /// The number of rows in a band.
 fn band_rows(width: u32) -> u32

@@ -2,4 +2,4 @@
 
 /// The line that `--version` writes: the version, and the checksum of all sources but this one.
 pub(crate) const VERSION: &str =
-    "metaplay 1.0.0 (sources f0f121910b38661fa065775cbae87cbf6dd001781591d9e7587f28c44637012a)\n";
+    "metaplay 1.0.0 (sources cab8ea9cf2ce347fb0dfebf9b8ce8d9f46be5bda4bf3aeece65392933c0fa0a4)\n";
