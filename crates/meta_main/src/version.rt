@@ -2,4 +2,4 @@
 
 /// The line that `--version` writes: the version, and the checksum of all sources but this one.
 pub(crate) const VERSION: &str =
-    "metaplay 1.0.0 (sources 5a9be6a296adf74daf184b605530ad4317adfb174cb199ff542bd7c2d09cc0c4)\n";
+    "metaplay 1.0.0 (sources cab8ea9cf2ce347fb0dfebf9b8ce8d9f46be5bda4bf3aeece65392933c0fa0a4)\n";

@@ -32,4 +32,5 @@ pub mod PaintedFigureLemmas
 pub mod WorkedPaths
 pub mod WorkedFigures
 pub mod WideSpanLemmas
+pub mod FillSpanLemmas
 pub mod MaskSpanLemmas

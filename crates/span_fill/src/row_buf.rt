@@ -4,6 +4,7 @@ ghost use Rattle.std.specs.Prelude.{◌≡◌, ◌+◌, ◌<◌, ◌≤◌, ◌^
 ghost use Rattle.mapping.specs.Nibs.{IsNib};
 ghost use Rattle.span_fill.specs.RowState.{BeginsFill, BeginsStroke, DiffersInCapacity, FillsRow, HasFoundCrossings, SameWork, IsFillingWork, IsStrokingWork, filling, idle, stroking};
 
+mod lone_spans;
 mod sweeping;
 
 use crate::active_edges::{admit, sort_edges};
@@ -226,7 +227,7 @@ impl RowBuf {
         self.next_stroke(interval);
     }
 
-    /// The spans of the latest row, in order, at least one pixel apart.
+    /// The spans that were computed last, in order, at least one pixel apart.
     pub fn spans(&self) -> &[Span]
         ensures { result.now ≡ self.now.spans }
     {

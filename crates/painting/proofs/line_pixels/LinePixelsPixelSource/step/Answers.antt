@@ -1,5 +1,5 @@
 use Rattle.painting.proofs.LinePixelLemmas.{gives_step, none_to_step}
-use Rattle.painting.proofs.line_pixels.LinePixelsPixelSource.next_pixel.Goals as goal
+use Rattle.painting.proofs.line_pixels.LinePixelsPixelSource.step.Goals as goal
 
 pub returns-in-Some-clause-pixel : goal.returns-in-Some-clause-pixel
 returns-in-Some-clause-pixel c =

@@ -2,7 +2,7 @@ use Rattle.std.proofs.Common.{◌≡◌, ◌<◌, ℕ, get_or, length}
 use Rattle.painting.specs.FillStyles.{fill_style_paint}
 use Rattle.painting.specs.declared.row_op.RowOp.TheVariants.{Nothing}
 use Rattle.painting.proofs.HatchLemmas.{IsRowOpOf}
-use Rattle.painting.proofs.fill_style.FillStyle.put_hatch_row_ops.Given as goal
+use Rattle.painting.proofs.fill_style.FillStyle.hatch_rows.Given as goal
 
 -- the row operations so far are those of the hatch's rows
 abbrev pub invariant-loop-y : goal.invariant-loop-y

@@ -1,6 +1,6 @@
 use Rattle.std.proofs.Common.{◌<◌, ◌%◌, ◌∙◌, arith, refl}
 use Rattle.raster_ops.proofs.HatchLemmas.{either_cells, first_cell}
-use Rattle.raster_ops.proofs.hatches.row_cells.Goals as goal
+use Rattle.raster_ops.proofs.hatches.hatch_cells.Goals as goal
 
 pub returns-in-Vertical : goal.returns-in-Vertical
 returns-in-Vertical c = λ x. rw c.in-Vertical.is (first_cell (x % 8) (omega arith))
