@@ -28,7 +28,8 @@ spans_left rows end returned = 8193 * (end - rows.next) + (length rows.spans - r
 abbrev pub steps_left : FillSpans → ℕ
 steps_left fill = spans_left fill.rows.now fill.end fill.returned
 
--- the row buffer is the same, with the same capacity
+-- the row buffer is the same, with the same lines and capacity
 pub record EndsFill (start end : FillSpans) : Type 0 where
   pub same : end.rows.ghost_name ≡ start.rows.ghost_name
+  pub lines : end.rows.now.lines ≡ start.rows.now.lines
   pub capacity : end.rows.now.capacity ≡ start.rows.now.capacity

@@ -1,6 +1,6 @@
 //! Fills the inside of outlines and boxes, row by row.
 
-ghost use Rattle.std.specs.Prelude.{◌≡◌, ◌≤◌, ℕ, [], None, Some, true, length, IfSome};
+ghost use Rattle.std.specs.Prelude.{◌≡◌, ◌≤◌, ℕ, [], None, Some, true, length, IfSome, IsTrue};
 ghost use Rattle.mapping.specs.PixelBoxes.{in_box};
 ghost use Rattle.span_fill.specs.RowState.{IsFillingWork};
 ghost use Rattle.painting.specs.FillStyles.{fill_style_paint, in_inside};
@@ -22,38 +22,41 @@ use canvas::{Canvas, writing_law};
 use mapping::{Colour, Rect};
 use span_fill::{Outline, Region, RowBuf};
 
-/// Fills the inside of an outline, which lies within a box, by the current fill mode. The style has no source.
+/// Fills the inside of an outline, which lies within a box, by the current fill mode. The style has no source. Returns
+/// whether the row buffer has taken the outline's lines.
 pub(crate) fn fill_inside<O: Outline + Copy>(
     canvas: &mut Canvas,
     scratch: &mut DrawingScratch,
     outline: O,
     bounds: Rect,
     paint: &FillStyle<'_, '_>,
-)
+) -> bool
     requires countable { HasCapacityForLayer canvas.old }
     requires alone { paint.now.source ≡ None }
     requires capacity { length (O.lines outline) ≤ scratch.old.rows.capacity }
     requires within { (x y : ℕ) → in_inside paint.now (O.lines outline) x y ≡ true → in_box bounds x y ≡ true }
     ensures pixels { PaintsShape (fill_style_paint paint.now) (in_inside paint.now (O.lines outline)) canvas.old canvas.new }
     ensures few { CountsLayer canvas.old canvas.new }
+    ensures taken { IsTrue result → scratch.new.rows.lines ≡ O.lines outline }
     ensures capacity { scratch.new.rows.capacity ≡ scratch.old.rows.capacity }
 {
     writing_law();
     whole_law(canvas);
     let drawn = visible_in(canvas, paint.clip, bounds);
     if drawn.columns.from >= drawn.columns.to {
-        return;
+        return false;
     }
     let rule = rule_of(paint.modes.fill_mode);
     let mut lines = outline;
     scratch.rows.begin_fill(&mut lines, rule, drawn.rows.from);
     if let (Some(colour), true) = (paint.same_colour(), paint.clip.cut_boxes().is_empty()) {
         put_inside(canvas, &mut scratch.rows, drawn, colour);
-        return;
+        return true;
     }
     let hatch = paint.hatch_rows(drawn.rows);
     let painter = paint.painter(drawn.columns, hatch.as_ref());
     paint_rows(canvas, scratch, Part::Inside(rule), drawn.rows, &painter);
+    true
 }
 
 /// Writes the pixels of a region in one colour that are inside the lines with which a row buffer has begun.
@@ -66,6 +69,7 @@ fn put_inside(canvas: &mut Canvas, rows: &mut RowBuf, drawn: Region, colour: Col
     requires next { rows.old.next ≡ drawn.rows.from }
     requires begun { rows.old.spans ≡ [] }
     ensures pixels { PutsShape drawn (is_filled rows.old.work rows.old.lines) colour canvas.old canvas.new }
+    ensures lines { rows.new.lines ≡ rows.old.lines }
     ensures capacity { rows.new.capacity ≡ rows.old.capacity }
 {
     writing_law();

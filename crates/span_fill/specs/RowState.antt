@@ -100,3 +100,10 @@ pub record BeginsStroke (nib : Nib) (given : List Line) (y size : ℕ) (new : Ro
   pub next : new.next ≡ y
   pub spans : new.spans ≡ []
   pub capacity : new.capacity ≡ size
+
+-- the buffer has these lines, and no work
+pub record KeepsLines (given : List Line) (size : ℕ) (new : RowState) : Type 0 where
+  pub lines : new.lines ≡ given
+  pub work : new.work ≡ idle
+  pub spans : new.spans ≡ []
+  pub capacity : new.capacity ≡ size

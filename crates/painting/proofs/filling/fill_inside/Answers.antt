@@ -1,4 +1,4 @@
-use Rattle.std.proofs.Common.{arith, sym}
+use Rattle.std.proofs.Common.{arith, sym, ◌∙◌}
 use Rattle.dc_stack.specs.Values.{placed_value}
 use Rattle.span_fill.specs.Fill.{in_fill}
 use Rattle.preflight_cert.specs.Shape.{fill_rule_of}
@@ -50,3 +50,9 @@ returns-in-Some-true-clause-pixels g c =
 
 pub returns-in-Some-true-clause-few : goal.returns-in-Some-true-clause-few
 returns-in-Some-true-clause-few g c = few_written c.writing_law.ensures _ _ c.args.canvas.now c.put_inside.new.canvas c.put_inside.ensures.pixels c.whole_law.ensures.pixels
+
+pub returns-in-Some-true-clause-taken : goal.returns-in-Some-true-clause-taken
+returns-in-Some-true-clause-taken g c = λ taken. c.put_inside.ensures.lines ∙ c.begin_fill.ensures.lines
+
+pub returns-clause-taken : goal.returns-clause-taken
+returns-clause-taken g c = λ taken. c.paint_rows.ensures.lines ∙ c.begin_fill.ensures.lines
