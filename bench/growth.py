@@ -4,7 +4,7 @@
 import random
 from itertools import islice
 
-from shapes import ALTERNATE, FRAME, HANDLES, filled
+from shapes import FRAME, HANDLES, dense_spikes
 from timing import Row, least_seconds
 from writers import EMF, WMF
 
@@ -63,13 +63,6 @@ KINDS = {
 }
 
 
-def spikes(count):
-    """One polygon whose corners lie at the top and at the bottom by turns, so that many edges cross each other in each row."""
-    chance = random.Random(5)
-    corners = [(chance.randrange(FRAME), chance.randrange(FRAME // 4) + number % 2 * (FRAME * 3 // 4)) for number in range(count)]
-    return [*filled(ALTERNATE, EMF), EMF.step("polygon", *sum(corners, ()))]
-
-
 def form_of(kind):
     """The format whose records are counted."""
     return EMF if kind == "records of paths" else WMF
@@ -93,7 +86,7 @@ def spikes_rows(bench, side):
     """Four times the spikes."""
     commands = {}
     for count in SPIKES:
-        path = bench.write(lambda count=count: [EMF.file(spikes(count), FRAME, HANDLES)])
+        path = bench.write(lambda count=count: [EMF.file(dense_spikes(count, EMF), FRAME, HANDLES)])
         commands[count] = bench.show(path, side)
     seconds = least_seconds(commands)
     for few, many in zip(SPIKES, SPIKES[1:]):
