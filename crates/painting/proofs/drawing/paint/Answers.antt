@@ -56,13 +56,13 @@ returns-in-Line g c =
         | inr rectangle ↦ rw rectangle.3 refl
       ]
     ] in
-    let filled = c.fill.ensures.drawn in
+    let filled = c.fill-are_taken.ensures.drawn in
     let stroked = c.stroke.ensures.drawn in
     let fill_few = filled.few in
     let stroke_few = stroked.few in
     record {
       drawn = subst (λ (plain : List Layer). DrawsLayers (fills_of mark tools ++ (plain ++ strokes_of mark tools)) machine.surface c.args.canvas.now c.stroke.new.canvas) (sym alone)
-          (drawn_in_turn (fills_of mark tools) (strokes_of mark tools) machine.surface c.args.canvas.now c.fill.new.canvas c.stroke.new.canvas filled.rows filled.drawn stroked.drawn);
+          (drawn_in_turn (fills_of mark tools) (strokes_of mark tools) machine.surface c.args.canvas.now c.fill-are_taken.new.canvas c.stroke.new.canvas filled.rows filled.drawn stroked.drawn);
       rows = record {
         width = stroked.rows.width ∙ filled.rows.width;
         first = stroked.rows.first ∙ filled.rows.first;
@@ -70,5 +70,5 @@ returns-in-Line g c =
         most = stroked.rows.most ∙ filled.rows.most;
       };
       few = omega (arith, fill_few, stroke_few);
-      capacity = c.stroke.ensures.capacity ∙ c.fill.ensures.capacity;
+      capacity = c.stroke.ensures.capacity ∙ c.fill-are_taken.ensures.capacity;
     }
