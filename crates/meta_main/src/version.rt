@@ -2,4 +2,4 @@
 
 /// The line that `--version` writes: the version, and the checksum of all sources but this one.
 pub(crate) const VERSION: &str =
-    "metaplay 1.0.0 (sources cab8ea9cf2ce347fb0dfebf9b8ce8d9f46be5bda4bf3aeece65392933c0fa0a4)\n";
+    "metaplay 1.0.0 (sources e81ad1de6a3b80a0a067df8b150c599e154a55feea2d625ec03f09e810ac1515)\n";
