@@ -63,8 +63,8 @@ pub fn draw<'a, T: Table<'a>>(
     paint(drawn, machine, scratch, canvas);
 }
 
-/// Paints one drawing. A dot writes one pixel in its own colour and a blit paints a box. Everything else is filled,
-/// then stroked.
+/// Paints one drawing. A dot writes one pixel in its own colour, a blit paints a box, and a line is only stroked.
+/// Everything else is filled, then stroked.
 fn paint<'a, T: Table<'a>>(
     drawn: Draw<'a>,
     machine: &Machine<'a, T>,
@@ -85,7 +85,8 @@ fn paint<'a, T: Table<'a>>(
     match drawn.mark {
         Mark::Dot { at, colour } => put(place.at(at), colour, &dc.clip, canvas),
         Mark::Blit(asked) => blit(&asked, place, dc, &mut scratch.row_ops, canvas),
-        Mark::Line { .. } | Mark::Figures { .. } | Mark::Rectangle { .. } => {
+        Mark::Line { .. } => stroke(drawn, false, machine, scratch, canvas),
+        Mark::Figures { .. } | Mark::Rectangle { .. } => {
             let are_taken = fill(drawn, machine, scratch, canvas);
             stroke(drawn, are_taken, machine, scratch, canvas);
         }
