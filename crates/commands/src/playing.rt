@@ -73,7 +73,9 @@ fn band_pixels(asked: AskedSurface, cleared: &Cleared<'_>) -> u32 {
 }
 
 /// The most pixels of a band of this surface. Each band but the first reads the records again.
-fn most_pixels(surface: u64, work: u64) -> u64 {
+fn most_pixels(surface: u64, work: u64) -> u64
+    ensures { result < 2 ^ 32 }
+{
     let again = surface.saturating_sub(1) / CACHED_PIXELS;
     if again.saturating_mul(work) <= SOME_WORK {
         CACHED_PIXELS
