@@ -13,6 +13,9 @@ SIDE = 1024
 # How far rectangles are apart at most where what the memory costs is to be left out.
 NEAR = 32
 
+# A file that is shown is read twice: before anything is drawn, and as it is drawn.
+WALKS = 2
+
 # How many of the 64 pixels of each hatch's square of 8 by 8 it colours.
 HATCHED = [8, 8, 8, 8, 15, 16]
 
@@ -119,8 +122,14 @@ def short_lines(count):
 
 
 def small(record, count):
-    """Shapes of one pixel: how many."""
+    """Small shapes: how many."""
     return filled(ALTERNATE) + count * [record], count
+
+
+def origins(count):
+    """Records that move the window's origin to and fro: how many times each is read in all."""
+    turn = WMF.records("window_origin 1 1; window_origin 0 0")
+    return count // 2 * turn, count * WALKS
 
 
 FILES = {
@@ -144,6 +153,12 @@ FILES = {
     "rectangles of a pixel, half": lambda: small(rectangle(4, 4, 1, 1), 200_000),
     "triangles of a pixel, all": lambda: small(WMF.step("polygon", 4, 4, 6, 4, 4, 5), 200_000),
     "triangles of a pixel, half": lambda: small(WMF.step("polygon", 4, 4, 6, 4, 4, 5), 100_000),
+    "rectangles of 6 by 6, all": lambda: small(rectangle(4, 4, 6, 6), 400_000),
+    "rectangles of 6 by 6, half": lambda: small(rectangle(4, 4, 6, 6), 200_000),
+    "triangles of 6 by 6, all": lambda: small(WMF.step("polygon", 4, 4, 10, 4, 4, 10), 200_000),
+    "triangles of 6 by 6, half": lambda: small(WMF.step("polygon", 4, 4, 10, 4, 4, 10), 100_000),
+    "origins, all": lambda: origins(1_000_000),
+    "origins, half": lambda: origins(500_000),
 }
 
 
@@ -180,6 +195,9 @@ class Differences:
             all_of, half = (f"{shape} of a pixel, {part}" for part in ("all", "half"))
             _, count = self.apart(all_of, half)
             self.each(f"a record of {shape} beside its pixel", all_of, half, goal, less * count)
+        self.each("a record that draws nothing, read once", "origins, all", "origins, half", 60)
+        self.each("a rectangle of 6 by 6 pixels", "rectangles of 6 by 6, all", "rectangles of 6 by 6, half", 350)
+        self.each("a triangle of 6 by 6 pixels", "triangles of 6 by 6, all", "triangles of 6 by 6, half", 600)
         return self.rows
 
     def spans(self):

@@ -50,14 +50,15 @@ def on_page(places, page):
     return [number * page // FRAME for place in places for number in place]
 
 
-def small_polygons(form=WMF, page=FRAME):
-    """10,000 polygons, filled and stroked, each within an eighth of the frame's sides, by turns with each tool."""
+def small_polygons(form=WMF, page=FRAME, corners=range(3, 9)):
+    """10,000 polygons of any of these numbers of corners, filled and stroked, each within an eighth of the frame's sides, by turns with each
+    tool."""
     chance, side = random.Random(1), FRAME // 8
     yield from pens_and_brushes(chance, "solid_pen", "solid_brush", form=form)
     for number in range(10_000):
         yield form.step("select", number % 16 * 2) + form.step("select", number % 16 * 2 + 1)
         corner = place_in(chance, 0, 0, FRAME - side)
-        places = [place_in(chance, *corner, side) for _ in range(chance.randrange(3, 9))]
+        places = [place_in(chance, *corner, side) for _ in range(chance.choice(corners))]
         yield form.step("polygon", *on_page(places, page))
 
 
@@ -139,6 +140,13 @@ def spiked_polygon(form=WMF, page=FRAME):
     for number in range(4_000):
         far, angle = chance.randrange(FRAME // 4, FRAME // 2), math.tau * number / 4_000
         places.append((FRAME // 2 + round(far * math.cos(angle)), FRAME // 2 + round(far * math.sin(angle))))
+    return [*filled(ALTERNATE, form), form.step("polygon", *on_page(places, page))]
+
+
+def dense_spikes(count, form=WMF, page=FRAME):
+    """One polygon whose corners lie at the top and at the bottom by turns, so that many edges cross each other in each row."""
+    chance, quarter = random.Random(5), FRAME // 4
+    places = [(chance.randrange(FRAME), chance.randrange(quarter) + number % 2 * 3 * quarter) for number in range(count)]
     return [*filled(ALTERNATE, form), form.step("polygon", *on_page(places, page))]
 
 

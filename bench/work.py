@@ -1,10 +1,14 @@
-"""Five files of work, each as WMF and as EMF, at 1,024 and at 4,096 pixels a side. One to one they stand beside wine's GDI, or, where that isn't
+"""Files of work, each as WMF and as EMF, at 1,024 and at 4,096 pixels a side. One to one they stand beside wine's GDI, or, where that isn't
 there, beside an empty picture; on a map that scales, beside the same places one to one. Memory is what a run takes beyond the file's size, at
 8,192 pixels a side too."""
 
+from collections.abc import Callable
+from functools import partial
+from typing import NamedTuple
+
 import peer
 from bitmaps import whole
-from shapes import FRAME, HANDLES, PAGE, any_lines, hatched_rectangles, map_of, small_polygons, spiked_polygon
+from shapes import FRAME, HANDLES, PAGE, any_lines, dense_spikes, hatched_rectangles, map_of, small_polygons, spiked_polygon
 from timing import MIB, Row, least_seconds, memory_of
 from writers import EMF, WMF, emf_file, i16, i32, placeable_file, u16, u32
 
@@ -12,20 +16,32 @@ SIDES = 1024, 4096
 
 LARGEST = 8192
 
-# How much of the peer's time a file may take, and of its own one to one on a map that scales.
-PEER_GOAL, MAP_GOAL = 0.5, 1.1
+# How much of its own time one to one a file may take on a map that scales.
+MAP_GOAL = 1.1
 
-MOST_MEMORY = 8 * MIB
+MOST_MEMORY = 7 * MIB
 
 EMPTY = "an empty picture"
 
+
+class Work(NamedTuple):
+    """What the records of a file draw, by its format and the units of its page, and how much of the peer's time it may take at the two sides."""
+
+    records: Callable
+    goals: tuple = (None, None)
+
+
 WORK = {
-    "10,000 polygons of 3 to 8 corners": small_polygons,
-    "50,000 lines of any slope": any_lines,
-    "a bitmap of 1,024 by 1,024": lambda form, page: whole(24, (0, 0, page, page), form=form)(),
-    "2,000 hatched rectangles": hatched_rectangles,
-    "a polygon of 4,000 edges": spiked_polygon,
+    "10,000 polygons of 3 to 8 corners": Work(small_polygons, (0.45, 0.35)),
+    "10,000 polygons of 20 corners": Work(partial(small_polygons, corners=[20]), (0.6, 0.4)),
+    "50,000 lines of any slope": Work(any_lines, (0.6, 0.4)),
+    "a bitmap of 1,024 by 1,024": Work(lambda form, page: whole(24, (0, 0, page, page), form=form)(), (0.25, 0.35)),
+    "2,000 hatched rectangles": Work(hatched_rectangles, (0.25, 0.2)),
+    "a polygon of 4,000 edges": Work(spiked_polygon, (0.1, 0.12)),
+    "a polygon of 1,000 spikes": Work(partial(dense_spikes, 1_000)),
 }
+
+GOALS = {EMPTY: (0.1, 0.12)} | {name: work.goals for name, work in WORK.items()}
 
 # The sides of a device whose pixels are the frame's units, in hundredths of a millimetre, in pixels and in millimetres.
 DEVICE = {"frame": i32(0, 0, 100 * FRAME, 100 * FRAME), "device": u32(FRAME, FRAME), "millimetres": u32(FRAME, FRAME)}
@@ -42,9 +58,9 @@ def files():
     """The files, each by its format, what it draws, and how many units its page has on the frame."""
     for form in (WMF, EMF):
         yield (form.name, EMPTY, FRAME), lambda form=form: [file_of(form, [])]
-        for name, records in WORK.items():
-            yield (form.name, name, FRAME), lambda form=form, records=records: [file_of(form, records(form, FRAME))]
-            mapped = lambda form=form, records=records: [file_of(form, [*map_of(form, PAGE), *records(form, PAGE)])]  # noqa: E731
+        for name, (records, _) in WORK.items():
+            yield (form.name, name, FRAME), lambda form=form, records=records: [file_of(form, records(form=form, page=FRAME))]
+            mapped = lambda form=form, records=records: [file_of(form, [*map_of(form, PAGE), *records(form=form, page=PAGE)])]  # noqa: E731
             yield (form.name, name, PAGE), mapped
 
 
@@ -75,7 +91,7 @@ def rows_of(bench, paths, side, beside):
         elif beside is None:
             yield Row(subject, "s", ours, empty, EMPTY, memory=memory)
         else:
-            goal = None if name == EMPTY else PEER_GOAL
+            goal = GOALS[name][SIDES.index(side)]
             yield Row(subject, "s", ours, seconds["peer", form, name, page], peer.NAME, most_ratio=goal, memory=memory)
 
 

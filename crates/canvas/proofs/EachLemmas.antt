@@ -1,5 +1,5 @@
 -- What a source gives is written, pixel after pixel or span after span.
-use Rattle.std.proofs.Common.{◌≡◌, ℕ, ◌+◌, ◌*◌, ◌-◌, ◌<◌, ◌≤◌, ◌^◌, Bool, true, false, not, ◌&&◌, ◌||◌, eqb, refl, sym, ◌∙◌, arith}
+use Rattle.std.proofs.Common.{◌≡◌, ℕ, ◌+◌, ◌*◌, ◌-◌, ◌<◌, ◌≤◌, ◌^◌, Bool, true, false, not, ◌&&◌, ◌||◌, eqb, refl, sym, ap, ◌∙◌, arith}
 use Rattle.std.proofs.lemmas.Bool.{and_from, and_parts, eq-eqb, eqb-true, false_from_ne_true, true≢false}
 use Rattle.mapping.specs.declared.geometry.Colour.{Colour}
 use Rattle.canvas.specs.CanvasState.{CanvasState, HasPixel, HasRow}
@@ -128,6 +128,18 @@ module _ (start : ℕ → ℕ → Bool) (made : Colour → Colour) (old : Canvas
       kept = λ x y h. so_far.kept x y (still (now x y) (piece x y) (sym (gives.others x y) ∙ h));
       writes = same ∙ so_far.writes;
     }
+
+  -- the same are changed after a step that returns nothing
+  pub same_changed : (now next : ℕ → ℕ → Bool) (count : ℕ) (canvas : CanvasState) → HasChanged start now made count old canvas → ((x y : ℕ) → next x y ≡ now x y) → HasChanged start next made count old canvas
+  same_changed now next count canvas so_far same = record {
+    written =
+        writing_laws.same (is_given start now) (is_given start next) (λ x y c. made c) (λ x y c. made c) old (counted count canvas) whole
+        (λ x y held. ap (λ (b : Bool). start x y && not b) (sym (same x y)))
+        (λ x y c held t. refl)
+        so_far.written;
+    kept = λ x y h. so_far.kept x y (sym (same x y) ∙ h);
+    writes = so_far.writes;
+  }
 
   -- all are, once none is to come
   pub all_changed : (now : ℕ → ℕ → Bool) (count : ℕ) (canvas : CanvasState) → HasChanged start now made count old canvas → ((x y : ℕ) → now x y ≡ false) → Repaints start (λ x y c. made c) old (counted count canvas)

@@ -1,8 +1,10 @@
 -- Sources that return pixels one by one.
-use Rattle.std.specs.Prelude.{◌≡◌, ℕ, ◌+◌, ◌<◌, Bool, true, false, ◌&&◌, not, Option, Some, None}
+use Rattle.std.specs.Prelude.{◌≡◌, ℕ, ◌+◌, ◌<◌, Bool, true, false, ◌&&◌, not}
 use Rattle.canvas.specs.CanvasState.{CanvasState}
 use Rattle.canvas.specs.Writing.{is_at}
 use Rattle.canvas.specs.declared.pixel_source.PixelAt.{PixelAt}
+use Rattle.canvas.specs.declared.pixel_source.PixelStep.{PixelStep}
+use Rattle.canvas.specs.declared.pixel_source.PixelStep.TheVariants.{End, Nothing, Pixel}
 
 -- a remaining pixel was returned, and every other one still remains
 pub record GivesOne (old new : ℕ → ℕ → Bool) (before after : ℕ) (pixel : PixelAt) : Type 0 where
@@ -10,15 +12,27 @@ pub record GivesOne (old new : ℕ → ℕ → Bool) (before after : ℕ) (pixel
   pub others : (x y : ℕ) → new x y ≡ (old x y && not (is_at pixel.x pixel.y x y))
   pub less : after < before
 
--- the next pixel is returned, one of those that remain; or nothing, and only if none remains
-abbrev pub GivesNext : (ℕ → ℕ → Bool) → ℕ → Option PixelAt → (ℕ → ℕ → Bool) → ℕ → Type 0
-GivesNext old before None new after = (x y : ℕ) → old x y ≡ false
-GivesNext old before (Some pixel) new after = GivesOne old new before after pixel
+-- the same pixels remain after the step
+pub record GivesNone (old new : ℕ → ℕ → Bool) (before after : ℕ) : Type 0 where
+  pub same : (x y : ℕ) → new x y ≡ old x y
+  pub less : after < before
 
--- a source that returns a pixel ends as the source before it would, and one that returns nothing has ended
-abbrev pub KeepsEnd : {S A : Type 0} → (S → S → Type 0) → Option A → S → S → Type 0
-KeepsEnd ends_as None old new = ends_as old new
-KeepsEnd {S} ends_as (Some given) old new = (end : S) → ends_as new end → ends_as old end
+-- the step returns one of the pixels that remain, or nothing; or it ends, and only if none remains
+abbrev pub GivesNext : (ℕ → ℕ → Bool) → ℕ → PixelStep → (ℕ → ℕ → Bool) → ℕ → Type 0
+GivesNext old before (Pixel pixel) new after = GivesOne old new before after pixel
+GivesNext old before Nothing new after = GivesNone old new before after
+GivesNext old before End new after = (x y : ℕ) → old x y ≡ false
+
+-- the source has ended
+abbrev pub is_end : PixelStep → Bool
+is_end (Pixel pixel) = false
+is_end Nothing = false
+is_end End = true
+
+-- a source that has ended is as it should be at its end, and every other will end as the source before it would
+abbrev pub KeepsEnd : {S : Type 0} → (S → S → Type 0) → Bool → S → S → Type 0
+KeepsEnd ends_as true old new = ends_as old new
+KeepsEnd {S} ends_as false old new = (end : S) → ends_as new end → ends_as old end
 
 -- a canvas with this many more writes in its count
 abbrev pub counted : ℕ → CanvasState → CanvasState

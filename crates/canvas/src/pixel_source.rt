@@ -3,7 +3,7 @@
 ghost use Rattle.std.specs.Prelude.{◌≡◌, ◌+◌, ◌*◌, ◌<◌, ◌^◌, ℕ, Bool, true};
 ghost use Rattle.mapping.specs.Mixes.{mixed_by};
 ghost use Rattle.canvas.specs.CanvasState.{HasPixel};
-ghost use Rattle.canvas.specs.PixelSources.{GivesNext, KeepsEnd, counted};
+ghost use Rattle.canvas.specs.PixelSources.{GivesNext, KeepsEnd, counted, is_end};
 ghost use Rattle.canvas.specs.Writing.{Repaints, is_at};
 
 use crate::pixel_change::PixelChange;
@@ -17,21 +17,33 @@ pub struct PixelAt {
     pub y: u32,
 }
 
-/// Pixels of a surface, one by one and none twice.
+/// The result of a source's step.
+#[derive(Clone, Copy, Debug, PartialEq, Eq)]
+pub enum PixelStep {
+    /// One of the remaining pixels.
+    Pixel(PixelAt),
+    /// No pixel. The same pixels remain.
+    Nothing,
+    /// No pixel remains.
+    End,
+}
+
+/// Pixels of a surface, one by one and none twice. A step may return nothing: a source that searches for its next pixel
+/// in a loop of its own would be slower.
 pub trait PixelSource {
     /// Whether a pixel remains.
     ghost to_come: { Self → ℕ → ℕ → Bool };
 
-    /// A number that decreases with each pixel.
+    /// A number that decreases with each step.
     ghost measure: { Self → ℕ };
 
     /// What a source is after it has returned all its pixels.
     ghost ends_as: { Self → Self → Type 0 };
 
-    /// The next pixel, or `None` after the last one.
-    fn next_pixel(&mut self) -> Option<PixelAt>
+    /// Takes a step.
+    fn step(&mut self) -> PixelStep
         ensures pixel { GivesNext (to_come self.old) (measure self.old) result (to_come self.new) (measure self.new) }
-        ensures end { KeepsEnd ends_as result self.old self.new };
+        ensures end { KeepsEnd ends_as (is_end result) self.old self.new };
 }
 
 impl Canvas {
@@ -70,9 +82,15 @@ impl Canvas {
         self.width();
         // (the writes are counted here: counting in the canvas would access memory for each pixel)
         let mut count: u64 = 0;
-        while let Some(pixel) = pixels.next_pixel() {
-            self.change(pixel.x, pixel.y, change);
-            count += 1;
+        loop {
+            match pixels.step() {
+                PixelStep::Pixel(pixel) => {
+                    self.change(pixel.x, pixel.y, change);
+                    count += 1;
+                }
+                PixelStep::Nothing => {}
+                PixelStep::End => break,
+            }
         }
         self.writes += count;
     }

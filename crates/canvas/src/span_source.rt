@@ -4,7 +4,7 @@ ghost use Rattle.std.specs.Prelude.{◌≡◌, ◌+◌, ◌*◌, ◌<◌, ◌≤
 ghost use Rattle.mapping.specs.Mixes.{mixed_by};
 ghost use Rattle.canvas.specs.CanvasState.{HasPixel, HasRow};
 ghost use Rattle.canvas.specs.PixelSources.{KeepsEnd};
-ghost use Rattle.canvas.specs.SpanSources.{ChangesSpan, GivesNextSpan};
+ghost use Rattle.canvas.specs.SpanSources.{ChangesSpan, GivesNextSpan, is_last};
 ghost use Rattle.canvas.specs.Writing.{Repaints, in_row_span};
 
 use crate::part_change::PartChange;
@@ -20,21 +20,32 @@ pub struct RowSpan {
     pub to: u32,
 }
 
-/// Spans of a surface's rows, one by one, with no pixel in two of them.
+/// The result of a source's step.
+#[derive(Clone, Copy, Debug, PartialEq, Eq)]
+pub enum SpanStep {
+    /// A span of pixels that remain. It may be empty.
+    Span(RowSpan),
+    /// No span. The same pixels remain.
+    Nothing,
+    /// No pixel remains.
+    End,
+}
+
+/// Spans of a surface's rows, one by one, with no pixel in two of them. A step may return nothing.
 pub trait SpanSource {
     /// Whether a pixel remains.
     ghost to_come: { Self → ℕ → ℕ → Bool };
 
-    /// A number that decreases with each span.
+    /// A number that decreases with each step.
     ghost measure: { Self → ℕ };
 
     /// What a source is after it has returned all its spans.
     ghost ends_as: { Self → Self → Type 0 };
 
-    /// The next span, which may be empty, or none after the last.
-    fn next_span(&mut self) -> Option<RowSpan>
+    /// Takes a step.
+    fn step(&mut self) -> SpanStep
         ensures span { GivesNextSpan (to_come self.old) (measure self.old) result (to_come self.new) (measure self.new) }
-        ensures end { KeepsEnd ends_as result self.old self.new };
+        ensures end { KeepsEnd ends_as (is_last result) self.old self.new };
 }
 
 impl Canvas {
@@ -73,8 +84,12 @@ impl Canvas {
         self.width();
         // (the writes are counted here: counting in the canvas would access memory for each span)
         let mut count: u64 = 0;
-        while let Some(span) = spans.next_span() {
-            count += self.change_span(span, change);
+        loop {
+            match spans.step() {
+                SpanStep::Span(span) => count += self.change_span(span, change),
+                SpanStep::Nothing => {}
+                SpanStep::End => break,
+            }
         }
         self.writes += count;
     }

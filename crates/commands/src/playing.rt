@@ -14,6 +14,9 @@ use std::alloc::Global;
 /// The most pixels of a band, unless the fewest rows have more. They take 3 MiB.
 const MOST_PIXELS: u64 = 1 << 20;
 
+/// The most pixels of a band that mostly stays in the processor's cache.
+const CACHED_PIXELS: u64 = 1 << 19;
+
 /// The fewest pixels of a band, if the surface has that many.
 const FEWEST_PIXELS: u64 = 1 << 16;
 
@@ -23,6 +26,9 @@ const FEWEST_ROWS: u32 = 8;
 /// Reading this many records and lines again, in all bands together, takes less time than the first access to 3 MiB of
 /// memory.
 const LITTLE_WORK: u64 = 1 << 12;
+
+/// Reading this many again takes less time than bands save that stay in the cache.
+const SOME_WORK: u64 = 1 << 19;
 
 /// Going through this many bytes of a file takes no longer than one record.
 const BYTES_A_RECORD: usize = 16;
@@ -63,7 +69,19 @@ fn band_pixels(asked: AskedSurface, cleared: &Cleared<'_>) -> u32 {
     let work = u64::from(cleared.records).saturating_mul(lines);
     let work = work.max((cleared.opened.records.len() / BYTES_A_RECORD) as u64);
     let share = surface.saturating_mul(work) / LITTLE_WORK;
-    share.max(FEWEST_PIXELS).min(MOST_PIXELS) as u32
+    share.max(FEWEST_PIXELS).min(most_pixels(surface, work)) as u32
+}
+
+/// The most pixels of a band of this surface. Each band but the first reads the records again.
+fn most_pixels(surface: u64, work: u64) -> u64
+    ensures { result < 2 ^ 32 }
+{
+    let again = surface.saturating_sub(1) / CACHED_PIXELS;
+    if again.saturating_mul(work) <= SOME_WORK {
+        CACHED_PIXELS
+    } else {
+        MOST_PIXELS
+    }
 }
 
 /// Plays a cleared file on a white surface in bands, and writes the image's P6 text to `out`. Fails with

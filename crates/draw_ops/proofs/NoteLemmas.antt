@@ -1,5 +1,5 @@
 -- Lists of counts added one count after another, as a loop does it.
-use Rattle.std.proofs.Common.{◌≡◌, ℕ, zero, suc, ◌+◌, ◌<◌, min, List, [], ◌∷◌, length, refl, ap, arith, add-one}
+use Rattle.std.proofs.Common.{◌≡◌, ℕ, zero, suc, ◌+◌, ◌<◌, min, List, [], ◌∷◌, length, replicate, refl, ap, arith, add-one}
 use Rattle.std.proofs.Math.ListN.{get_or, set}
 use Rattle.draw_ops.specs.NoteCounts.{note_limit, added_notes}
 
@@ -34,6 +34,15 @@ added_prefix-all (suc i) (count ∷ counts) (m ∷ more) ends same = ap (λ rest
 -- one more is added
 pub next_added : (i : ℕ) (counts more now : List ℕ) → i < length counts → length counts ≡ length more → now ≡ added_prefix i counts more → set now i (min (get_or now i 0 + get_or more i 0) note_limit) ≡ added_prefix (i + 1) counts more
 next_added i counts more now inside same is = rw (is, get_or-added_prefix i counts more, add-one) (set-added_prefix i counts more inside same)
+
+-- zeros change no count
+pub added_zeros : (n : ℕ) (counts : List ℕ) → length counts ≡ n → ((i : ℕ) → get_or counts i 0 < 4294967296) → added_notes counts (replicate n 0) ≡ counts
+added_zeros zero [] all few = refl
+added_zeros zero (count ∷ counts) all few = absurd (omega arith)
+added_zeros (suc n) [] all few = absurd (omega arith)
+added_zeros (suc n) (count ∷ counts) all few =
+    let same : min (count + 0) note_limit ≡ count = omega (arith, few 0) in
+    rw (same, added_zeros n counts (omega arith) (λ i. few (suc i))) refl
 
 -- what the tactics take to a sum of notes
 pub ruleset sums = (added_prefix-all, next_added)

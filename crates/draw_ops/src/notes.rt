@@ -1,6 +1,6 @@
 //! Counts of notes.
 
-ghost use Rattle.std.specs.Prelude.{◌≡◌};
+ghost use Rattle.std.specs.Prelude.{◌≡◌, length};
 ghost use Rattle.draw_ops.specs.NoteCounts.{note_count, no_notes, with_note, added_notes};
 ghost use Rattle.draw_ops.specs.NoteSet.{notes_in};
 
@@ -70,14 +70,20 @@ impl Notes {
         Notes { counts }
     }
 
-    /// The counts with one more note of each kind in a set. Most sets are empty.
+    /// The counts with one more note of each kind in a set. Most sets are empty, and then nothing is added.
     pub fn with_all(self, set: NoteSet) -> Notes
         ensures { result.counts ≡ added_notes self.counts (notes_in set) }
     {
         if set.bits == 0 {
-            self.plus(Notes::none())
-        } else {
-            self.plus(Notes::of(set))
+            zeros_law(&self.counts);
+            return self;
         }
+        self.plus(Notes::of(set))
     }
 }
+
+/// Adding no note changes no count.
+fn zeros_law(counts: &[u32])
+    requires { length counts.now ≡ 9 }
+    ensures { added_notes counts.now no_notes ≡ counts.now }
+{}

@@ -2,4 +2,4 @@
 
 /// The line that `--version` writes: the version, and the checksum of all sources but this one.
 pub(crate) const VERSION: &str =
-    "metaplay 1.0.0 (sources 5a9be6a296adf74daf184b605530ad4317adfb174cb199ff542bd7c2d09cc0c4)\n";
+    "metaplay 1.0.0 (sources bff755b22db9f68eddff75408a6b449948884371b3da2fa99fcdf8f1fbc3384d)\n";

@@ -2,7 +2,7 @@
 use Rattle.std.proofs.Common.{◌≡◌, ℕ, ◌≤◌, Bool, true, false, not, ◌&&◌, arith, refl, ap, sym, ◌∙◌}
 use Rattle.std.proofs.lemmas.Bool.{and_from}
 use Rattle.std.proofs.Math.Bool.{and-true}
-use Rattle.canvas.specs.PixelSources.{GivesOne}
+use Rattle.canvas.specs.PixelSources.{GivesNone, GivesOne}
 use Rattle.canvas.specs.Writing.{is_at}
 use Rattle.canvas.specs.declared.pixel_source.PixelAt.{PixelAt}
 use Rattle.painting.proofs.LinePixelLemmas.{is_at_true}
@@ -37,16 +37,10 @@ module _ (old now keeps later : ℕ → ℕ → Bool) (before after : ℕ) (pixe
       (left_same (old x y) (is_at pixel.x pixel.y x y) (keeps x y) (later x y) (same x y)
       (λ here. let at = is_at_true pixel.x pixel.y x y here in rw (at.0, at.1) other))
 
--- a pixel that is returned was one of the remaining pixels, if these are the same
-pub given_from : (start old new : ℕ → ℕ → Bool) (first before after : ℕ) (pixel : PixelAt) → ((x y : ℕ) → old x y ≡ start x y) → before ≤ first → GivesOne old new before after pixel → GivesOne start new first after pixel
-given_from start old new first before after pixel same least given =
-    let less = given.less in
-    record {
-      given = sym (same pixel.x pixel.y) ∙ given.given;
-      others = λ x y. given.others x y ∙ ap (λ (b : Bool). b && not (is_at pixel.x pixel.y x y)) (same x y);
-      less = omega (arith, less, least);
-    }
+-- a step that returns nothing leaves the selected pixels unchanged too
+pub still_kept : (old now keeps : ℕ → ℕ → Bool) (before after : ℕ) → GivesNone old now before after → GivesNone (filtered old keeps) (filtered now keeps) before after
+still_kept old now keeps before after gives = record { same = λ x y. ap (λ (b : Bool). b && keeps x y) (gives.same x y); less = gives.less }
 
 -- if no pixel remains, no selected pixel remains
-pub none_kept : (now keeps start : ℕ → ℕ → Bool) → ((x y : ℕ) → now x y ≡ false) → ((x y : ℕ) → filtered now keeps x y ≡ start x y) → (x y : ℕ) → start x y ≡ false
-none_kept now keeps start none same x y = sym (same x y) ∙ ap (λ (b : Bool). b && keeps x y) (none x y)
+pub none_kept : (now keeps : ℕ → ℕ → Bool) → ((x y : ℕ) → now x y ≡ false) → (x y : ℕ) → filtered now keeps x y ≡ false
+none_kept now keeps none x y = ap (λ (b : Bool). b && keeps x y) (none x y)

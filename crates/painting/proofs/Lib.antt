@@ -29,7 +29,9 @@ pub mod MoveLemmas
 pub mod PieceLemmas
 pub mod FigureLemmas
 pub mod PaintedFigureLemmas
+pub mod TakenLineLemmas
 pub mod WorkedPaths
 pub mod WorkedFigures
 pub mod WideSpanLemmas
+pub mod FillSpanLemmas
 pub mod MaskSpanLemmas

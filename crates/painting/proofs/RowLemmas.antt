@@ -20,7 +20,7 @@ use Rattle.painting.specs.declared.row_op.RowOp.{RowOp}
 use Rattle.painting.proofs.TestLemmas.{column_from, column_true}
 
 -- separate spans between two numbers have no other numbers
-within_ends : (first last : ℕ) (spans : List Span) (x : ℕ) → AreApart first last spans → in_spans spans x ≡ true → (first ≤ x) × (x < last)
+pub within_ends : (first last : ℕ) (spans : List Span) (x : ℕ) → AreApart first last spans → in_spans spans x ≡ true → (first ≤ x) × (x < last)
 within_ends first last [] x apart h = absurd (true≢false (sym h))
 within_ends first last (span ∷ spans) x apart h =
     let low = apart.0 in

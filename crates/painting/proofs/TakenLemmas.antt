@@ -20,10 +20,6 @@ kept_all false true false h = refl
 kept_all false false true h = sym (h refl)
 kept_all false false false h = refl
 
-or_none : (t s : Bool) → s ≡ false → t ≡ (t || s)
-or_none true s e = refl
-or_none false s e = sym e
-
 module _ (old now taken later : ℕ → ℕ → Bool) (before after : ℕ) (pixel : PixelAt) (given : GivesOne old now before after pixel) (takes : (x y : ℕ) → later x y ≡ (taken x y || is_at pixel.x pixel.y x y)) where
   pub taken_outside : (x y : ℕ) → (not (later x y) && not (is_at pixel.x pixel.y x y)) ≡ (not (taken x y) && not (is_at pixel.x pixel.y x y))
   taken_outside x y = rw (takes x y) (beside (taken x y) (is_at pixel.x pixel.y x y))
@@ -37,7 +33,3 @@ module _ (old now taken later : ℕ → ℕ → Bool) (before after : ℕ) (pixe
   -- what holds for each pixel that remained holds for each that remains now
   pub still_boxed : (test : ℕ → ℕ → Bool) → ((x y : ℕ) → old x y ≡ true → test x y ≡ true) → (x y : ℕ) → now x y ≡ true → test x y ≡ true
   still_boxed test all x y h = all x y (and_parts (old x y) (not (is_at pixel.x pixel.y x y)) (sym (given.others x y) ∙ h)).0
-
--- all are marked, if none remains
-pub none_more : (now taken start : ℕ → ℕ → Bool) → ((x y : ℕ) → now x y ≡ false) → ((x y : ℕ) → (taken x y || now x y) ≡ start x y) → (x y : ℕ) → taken x y ≡ start x y
-none_more now taken start none all x y = or_none (taken x y) (now x y) (none x y) ∙ all x y

@@ -3,6 +3,7 @@ use Rattle.std.proofs.Common.{◌≡◌, ℕ, suc, Bool, true, not, ◌&&◌, Li
 use Rattle.std.proofs.lemmas.Bool.{and_from, and_parts}
 use Rattle.std.specs.List.{list_any}
 use Rattle.mapping.specs.TestLaws.{same_test}
+use Rattle.mapping.specs.declared.geometry.Colour.{Colour}
 use Rattle.mapping.specs.declared.geometry.Rect.{Rect}
 use Rattle.mapping.specs.declared.mix.Mix.{Mix}
 use Rattle.canvas.specs.CanvasState.{CanvasState, HasPixel}
@@ -14,8 +15,10 @@ use Rattle.dc_stack.specs.declared.clip.Clip.{Clip}
 use Rattle.dc_stack.specs.declared.clip.ClipBox.{ClipBox}
 use Rattle.span_fill.specs.Spans.{in_region}
 use Rattle.span_fill.specs.declared.span.Region.{Region}
+use Rattle.painting.specs.Fills.{PutsShape}
 use Rattle.painting.specs.Painted.{PaintValue, PaintsShape, SamePaint, mixing_paint, paints}
 use Rattle.painting.specs.Regions.{HasRegion, HasVisible}
+use Rattle.painting.specs.RowsPainted.{IsSameColour}
 use Rattle.painting.proofs.VisitedMaskLemmas.{inside_of}
 
 -- a canvas that contains a region has its pixels
@@ -87,6 +90,14 @@ module _ (clip : ClipValue) (mix : Mix) (shape : ℕ → ℕ → Bool) (canvas :
       let parts = and_parts (in_boxes clip x y) (shape x y) (and_parts (in_boxes clip x y && shape x y) true h).0 in
       let kept = and_parts (in_kept clip.kept x y) (not (list_any (λ box. in_box box x y) clip.cuts)) parts.0 in
       and_from (in_region region x y && shape x y) (in_boxes clip x y) (and_from (in_region region x y) (shape x y) (visible.all x y held kept.0 parts.1) parts.1) parts.0)
+
+-- if nothing is cut out, a paint of one colour writes the pixels of the shape in the region
+pub painted_uncut : WritingLaws → (paint : PaintValue) (colour : Colour) (shape : ℕ → ℕ → Bool) (old new : CanvasState) (region : Region) → IsWhole old → HasVisible paint.clip shape old region → paint.clip.cuts ≡ [] → IsSameColour paint colour → PutsShape region shape colour old new → PaintsShape paint shape old new
+painted_uncut laws paint colour shape old new region whole visible none same r =
+    laws.same (λ x y. in_region region x y && shape x y) (paints paint shape) (λ x y c. colour) paint.makes old new whole
+    (λ x y held. seen_uncut paint.clip (record { keep = colour; flip = colour }) shape old region visible none x y held ∙ ap (λ (b : Bool). in_boxes paint.clip x y && shape x y && b) (sym (same.test x y)))
+    (λ x y c held t. sym (same.makes x y c))
+    r
 
 -- a shape that was painted by one paint was painted by each paint that does the same
 pub painted_same : WritingLaws → (one other : PaintValue) (shape : ℕ → ℕ → Bool) (old new : CanvasState) → IsWhole old → SamePaint one other → PaintsShape one shape old new → PaintsShape other shape old new

@@ -1,14 +1,20 @@
 -- When a drawing may be painted, and how one layer of it changes a canvas.
-use Rattle.std.specs.Prelude.{◌≤◌, List}
+use Rattle.std.specs.Prelude.{◌≡◌, ◌≤◌, Bool, true, false, List}
 use Rattle.mapping.specs.Surface.{Surface}
 use Rattle.canvas.specs.CanvasState.{CanvasState}
 use Rattle.dc_stack.specs.Drawing.{mark_edges, tools_of}
-use Rattle.dc_stack.specs.Draws.{IsPlacedDraw, mark_of}
+use Rattle.dc_stack.specs.Draws.{IsPlacedDraw, figures_drawn, mark_of}
 use Rattle.dc_stack.specs.MachineState.{HasNib, MachineState, drawing_with}
 use Rattle.dc_stack.specs.declared.draw.Draw.{Draw}
+use Rattle.dc_stack.specs.declared.draw.Mark.{Mark}
+use Rattle.dc_stack.specs.declared.draw.Mark.TheVariants.{Blit, Dot, Figures, Line, Rectangle}
+use Rattle.dc_stack.specs.declared.draw.Painting.TheVariants.{Fill, Stroke, StrokeAndFill}
 use Rattle.preflight_cert.specs.Layer.{Layer, fills_of, layers_of, strokes_of}
+use Rattle.span_fill.specs.declared.line.Line.{Line as TheLine}
 use Rattle.painting.specs.Counts.{CountsLayer}
 use Rattle.painting.specs.Drawn.{DrawsLayers, HoldsRows, SameRows}
+use Rattle.painting.specs.FigureEnds.{landed_lines}
+use Rattle.painting.specs.declared.list_lines.Ends.TheVariants.{Closed}
 use Rattle.painting.specs.declared.scratch.DrawingScratch.{DrawingScratch}
 
 -- a drawing may be painted: the canvas has rows of the machine's surface, the drawing lands within the limits, and the
@@ -24,6 +30,24 @@ pub record DrawsLayer (layers : List Layer) (s : Surface) (old new : CanvasState
   pub drawn : DrawsLayers layers s old new
   pub rows : SameRows old new
   pub few : CountsLayer old new
+
+-- the lines are those of a mark's figures, all of them closed
+abbrev pub HasClosedLines : Mark → MachineState → List TheLine → Type 0
+HasClosedLines (Dot at colour) machine lines = ⊥
+HasClosedLines (Line from to) machine lines = ⊥
+HasClosedLines (Figures painting points) machine lines = lines ≡ landed_lines machine.surface Closed (figures_drawn machine.painted points)
+HasClosedLines (Rectangle first second edges) machine lines = ⊥
+HasClosedLines (Blit blit) machine lines = ⊥
+
+-- a mark strokes figures that are all closed: those that it fills
+abbrev pub strokes_closed_figures : Mark → Bool
+strokes_closed_figures (Dot at colour) = false
+strokes_closed_figures (Line from to) = false
+strokes_closed_figures (Figures Fill points) = false
+strokes_closed_figures (Figures Stroke points) = false
+strokes_closed_figures (Figures StrokeAndFill points) = true
+strokes_closed_figures (Rectangle first second edges) = false
+strokes_closed_figures (Blit blit) = false
 
 -- a drawing was filled with the machine's current objects and modes
 abbrev pub Fills : Draw → MachineState → CanvasState → CanvasState → Type 0

@@ -30,6 +30,8 @@ pub mod RowPainters
 pub mod UntakenPixels
 pub mod LoneLines
 pub mod Parts
+pub mod Fills
+pub mod FillSpans
 pub mod Dots
 pub mod RectangleBoxes
 pub mod Regions

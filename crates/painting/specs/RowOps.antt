@@ -15,7 +15,7 @@ mixed_at keeps flips x old = mixed_by (mix_at keeps flips x) old
 abbrev pub is_inked : RowOp → ℕ → Bool
 is_inked Nothing x = false
 is_inked (Full splat) x = true
-is_inked (Pattern stripes) x = true
+is_inked (Pattern colours) x = true
 is_inked (Mixed mix) x = true
 is_inked (Cells cells mix None) x = is_cell cells x
 is_inked (Cells cells mix (Some gaps)) x = true
@@ -27,7 +27,7 @@ is_inked (MixCells cells keeps flips) x = is_cell cells x
 abbrev pub inked : RowOp → ℕ → Colour → Colour
 inked Nothing x old = old
 inked (Full splat) x old = splat.colour
-inked (Pattern stripes) x old = slice_index_or stripes.twice (x % 8) old
+inked (Pattern colours) x old = slice_index_or colours (x % 8) old
 inked (Mixed mix) x old = mixed_by mix old
 inked (Cells cells mix None) x old = mixed_by mix old
 inked (Cells cells mix (Some gaps)) x old = if is_cell cells x then mixed_by mix old else mixed_by gaps old

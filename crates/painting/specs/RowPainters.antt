@@ -16,13 +16,13 @@ use Rattle.painting.specs.declared.row_painter.RowPainter.{RowPainter}
 -- the row operations write a pixel
 abbrev pub row_ops_have : RowOps → ℕ → ℕ → Bool
 row_ops_have (Same row_op) x y = is_inked row_op x
-row_ops_have (Repeated row_ops) x y = is_inked (repeated_row_op row_ops.now y) x
+row_ops_have (Repeated hatch) x y = is_inked (repeated_row_op hatch.now.row_ops y) x
 row_ops_have (EachRow paint) x y = (fill_style_paint paint.now).has x y
 
 -- the new colour of a pixel that the row operations write
 abbrev pub row_ops_make : RowOps → ℕ → ℕ → Colour → Colour
 row_ops_make (Same row_op) x y old = inked row_op x old
-row_ops_make (Repeated row_ops) x y old = inked (repeated_row_op row_ops.now y) x old
+row_ops_make (Repeated hatch) x y old = inked (repeated_row_op hatch.now.row_ops y) x old
 row_ops_make (EachRow paint) x y old = (fill_style_paint paint.now).makes x y old
 
 -- a painter of rows as a paint
@@ -36,13 +36,13 @@ painter_paint painter = record {
 -- row operations that repeat are eight
 abbrev pub HasEight : RowOps → Type 0
 HasEight (Same row_op) = Unit
-HasEight (Repeated row_ops) = length row_ops.now ≡ 8
+HasEight (Repeated hatch) = length hatch.now.row_ops ≡ 8
 HasEight (EachRow paint) = Unit
 
 -- the row operations have no source
 abbrev pub ReadsNothing : RowOps → Type 0
 ReadsNothing (Same row_op) = Unit
-ReadsNothing (Repeated row_ops) = Unit
+ReadsNothing (Repeated hatch) = Unit
 ReadsNothing (EachRow paint) = paint.now.source ≡ None
 
 -- the source colours of these columns of a row are gathered, if there is a source
@@ -52,7 +52,7 @@ HoldsSource source columns y sources = IfSome source (λ reader. HoldsRow reader
 -- the source colours that the row operations need are gathered
 abbrev pub HoldsRead : RowOps → Span → ℕ → List Colour → Type 0
 HoldsRead (Same row_op) columns y sources = Unit
-HoldsRead (Repeated row_ops) columns y sources = Unit
+HoldsRead (Repeated hatch) columns y sources = Unit
 HoldsRead (EachRow paint) columns y sources = HoldsSource paint.now.source columns y sources
 
 -- source colours gathered for a reader are those that the row operations need

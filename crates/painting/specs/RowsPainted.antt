@@ -23,6 +23,11 @@ pub record IsRowOp (paint : PaintValue) (columns : Span) (y : ℕ) (row_op : Row
   pub test : (x : ℕ) → is_inked row_op x ≡ paint.has x y
   pub colour : (x : ℕ) (old : Colour) → columns.from ≤ x → x < columns.to → is_inked row_op x ≡ true → inked row_op x old ≡ paint.makes x y old
 
+-- a paint gives every pixel this colour
+pub record IsSameColour (paint : PaintValue) (colour : Colour) : Type 0 where
+  pub test : (x y : ℕ) → paint.has x y ≡ true
+  pub makes : (x y : ℕ) (old : Colour) → paint.makes x y old ≡ colour
+
 -- a row operation writes the same as a paint does, in every row
 pub record IsSameRowOp (paint : PaintValue) (row_op : RowOp) : Type 0 where
   pub test : (x y : ℕ) → is_inked row_op x ≡ paint.has x y

@@ -1,13 +1,14 @@
 //! Draws the result of a step on a canvas: first its fill, then its stroke.
 
-ghost use Rattle.std.specs.Prelude.{◌≡◌, ◌≤◌, IfSome};
+ghost use Rattle.std.specs.Prelude.{◌≡◌, ◌≤◌, IfSome, IsTrue, true};
 ghost use Rattle.std.specs.Option.{option_map};
 ghost use Rattle.dc_stack.specs.Draws.{IsPlacedDraw};
 ghost use Rattle.dc_stack.specs.Drawing.{drawing_edges, tools_of};
 ghost use Rattle.dc_stack.specs.MachineState.{HasNib, drawing_with};
+ghost use Rattle.span_fill.specs.WideStrokes.{one_pixel};
 ghost use Rattle.painting.specs.Counts.{CountsDrawing, HasCapacityForDrawing, HasCapacityForLayer};
 ghost use Rattle.painting.specs.Drawn.{DrawsDrawing, HoldsRows, SameRows};
-ghost use Rattle.painting.specs.Draws.{Draws, Fills, MayDraw, Strokes};
+ghost use Rattle.painting.specs.Draws.{Draws, Fills, HasClosedLines, MayDraw, Strokes, strokes_closed_figures};
 ghost use Rattle.painting.specs.PaintsOfLayers.{IsPenOf};
 
 use crate::blits::blit;
@@ -18,10 +19,10 @@ use crate::filling::{fill_box, fill_inside};
 use crate::list_lines::Ends;
 use crate::lone_line::LoneLine;
 use crate::rectangles::placed_box;
-use crate::regions::{Bounds, landed_box, misses_rows, whole_law};
+use crate::regions::{Bounds, landed_box, misses_rows, visible_in, whole_law};
 use crate::scratch::DrawingScratch;
 use crate::stroke::Stroke;
-use crate::stroking::{StrokedLines, stroke_box, stroke_lines};
+use crate::stroking::{StrokedLines, stroke_box, stroke_kept, stroke_lines};
 use canvas::{Canvas, writing_law};
 use dc_stack::{Draw, Machine, Mark, Painting};
 use draw_ops::{Brush, Pen};
@@ -62,8 +63,8 @@ pub fn draw<'a, T: Table<'a>>(
     paint(drawn, machine, scratch, canvas);
 }
 
-/// Paints one drawing. A dot writes one pixel in its own colour and a blit paints a box. Everything else is filled,
-/// then stroked.
+/// Paints one drawing. A dot writes one pixel in its own colour, a blit paints a box, and a line is only stroked.
+/// Everything else is filled, then stroked.
 fn paint<'a, T: Table<'a>>(
     drawn: Draw<'a>,
     machine: &Machine<'a, T>,
@@ -84,23 +85,26 @@ fn paint<'a, T: Table<'a>>(
     match drawn.mark {
         Mark::Dot { at, colour } => put(place.at(at), colour, &dc.clip, canvas),
         Mark::Blit(asked) => blit(&asked, place, dc, &mut scratch.row_ops, canvas),
-        Mark::Line { .. } | Mark::Figures { .. } | Mark::Rectangle { .. } => {
-            fill(drawn, machine, scratch, canvas);
-            stroke(drawn, machine, scratch, canvas);
+        Mark::Line { .. } => stroke(drawn, false, machine, scratch, canvas),
+        Mark::Figures { .. } | Mark::Rectangle { .. } => {
+            let are_taken = fill(drawn, machine, scratch, canvas);
+            stroke(drawn, are_taken, machine, scratch, canvas);
         }
     }
 }
 
-/// Fills the inside of a drawing, if it has one and the brush isn't null.
+/// Fills the inside of a drawing, if it has one and the brush isn't null. Returns whether the row buffer has taken the
+/// lines around it.
 fn fill<'a, T: Table<'a>>(
     drawn: Draw<'a>,
     machine: &Machine<'a, T>,
     scratch: &mut DrawingScratch,
     canvas: &mut Canvas,
-)
+) -> bool
     requires may { MayDraw drawn machine.now scratch.old canvas.old }
     requires countable { HasCapacityForLayer canvas.old }
     ensures drawn { Fills drawn.entry machine.now canvas.old canvas.new }
+    ensures taken { IsTrue result → HasClosedLines drawn.entry.mark machine.now scratch.new.rows.lines }
     ensures capacity { scratch.new.rows.capacity ≡ scratch.old.rows.capacity }
 {
     writing_law();
@@ -108,15 +112,15 @@ fn fill<'a, T: Table<'a>>(
     drawing_box_law();
     let brush = machine.dc().selected.brush;
     if let Brush::Null = brush {
-        return;
+        return false;
     }
     let place = machine.place();
     let paint = FillStyle::with(brush, machine);
     match drawn.mark {
-        Mark::Dot { .. } | Mark::Line { .. } | Mark::Blit(_) => {}
+        Mark::Dot { .. } | Mark::Line { .. } | Mark::Blit(_) => false,
         Mark::Figures { painting, points } => {
             if let Painting::Stroke = painting {
-                return;
+                return false;
             }
             let outline = FigureOutline::new(points, Ends::Closed, machine);
             fill_inside(
@@ -125,7 +129,7 @@ fn fill<'a, T: Table<'a>>(
                 outline,
                 landed_box(place, drawn.bounds, Nib::ONE),
                 &paint,
-            );
+            )
         }
         Mark::Rectangle {
             first,
@@ -134,19 +138,23 @@ fn fill<'a, T: Table<'a>>(
         } => {
             let inside = placed_box(place, first, second, edges);
             fill_box(canvas, inside, &paint, &mut scratch.row_ops);
+            false
         }
     }
 }
 
-/// Strokes the outline of a drawing, if it has one and the pen isn't null.
+/// Strokes the outline of a drawing, if it has one and the pen isn't null. The row buffer may have taken the lines around
+/// its inside.
 fn stroke<'a, T: Table<'a>>(
     drawn: Draw<'a>,
+    are_taken: bool,
     machine: &Machine<'a, T>,
     scratch: &mut DrawingScratch,
     canvas: &mut Canvas,
 )
     requires may { MayDraw drawn machine.now scratch.old canvas.old }
     requires countable { HasCapacityForLayer canvas.old }
+    requires taken { IsTrue are_taken → HasClosedLines drawn.mark machine.now scratch.old.rows.lines }
     ensures drawn { Strokes drawn.entry machine.now canvas.old canvas.new }
     ensures capacity { scratch.new.rows.capacity ≡ scratch.old.rows.capacity }
 {
@@ -155,7 +163,47 @@ fn stroke<'a, T: Table<'a>>(
         return;
     };
     let stroke = Stroke::with(colour, drawn.nib, machine);
+    if are_taken && strokes_closed_figures(&drawn.mark) && drawn.nib == Nib::ONE {
+        stroke_taken(drawn, &stroke, machine, scratch, canvas);
+        return;
+    }
     stroke_outline(drawn, &stroke, machine, scratch, canvas);
+}
+
+/// Whether a mark strokes figures that are all closed, as for a fill.
+fn strokes_closed_figures(mark: &Mark<'_>) -> bool
+    ensures { result ≡ strokes_closed_figures mark.now }
+{
+    match mark {
+        Mark::Figures { painting, .. } => matches!(painting, Painting::StrokeAndFill),
+        Mark::Dot { .. } | Mark::Line { .. } | Mark::Rectangle { .. } | Mark::Blit(_) => false,
+    }
+}
+
+/// Strokes closed figures by a nib of one pixel. The row buffer has taken their lines.
+fn stroke_taken<'a, T: Table<'a>>(
+    drawn: Draw<'a>,
+    stroke: &Stroke<'_>,
+    machine: &Machine<'a, T>,
+    scratch: &mut DrawingScratch,
+    canvas: &mut Canvas,
+)
+    requires may { MayDraw drawn machine.now scratch.old canvas.old }
+    requires countable { HasCapacityForLayer canvas.old }
+    requires pen { IsPenOf (tools_of machine.now.state.dc) machine.now.surface stroke.now }
+    requires nib { stroke.now.nib ≡ drawn.nib }
+    requires thin { drawn.nib ≡ one_pixel }
+    requires closed { strokes_closed_figures drawn.mark ≡ true }
+    requires taken { HasClosedLines drawn.mark machine.now scratch.old.rows.lines }
+    ensures drawn { Strokes drawn.entry machine.now canvas.old canvas.new }
+    ensures capacity { scratch.new.rows.capacity ≡ scratch.old.rows.capacity }
+{
+    writing_law();
+    whole_law(canvas);
+    drawing_box_law();
+    let bounds = Bounds::Plane(machine.place(), drawn.bounds, drawn.nib);
+    let region = visible_in(canvas, stroke.clip, bounds.on_surface());
+    stroke_kept(canvas, scratch, region, stroke);
 }
 
 /// Strokes the outline of a drawing, if it has one, with the pen's stroke.

@@ -12,15 +12,16 @@ ghost use Rattle.painting.specs.Painted.{SamePaint};
 ghost use Rattle.painting.specs.PaintsOfLayers.{IsFillStyleOf};
 ghost use Rattle.painting.specs.SourceRows.{HoldsRow};
 
-use crate::row_op::{PERIOD, RowOp, full, row_op, source_row_op, ungathered_row_op};
+use crate::row_op::{PERIOD, RowOp, full, hatched_row_op, row_op, source_row_op};
 use crate::row_op_scratch::{BLACK, MAX_SIDE, MixScratch};
-use crate::row_painter::{RowOps, RowPainter};
+use crate::row_painter::{HatchRows, RowOps, RowPainter};
 use dc_stack::{Clip, Dc, Machine, Modes};
 use draw_ops::{Brush, TernaryOp};
 use mapping::Colour;
 use object_tables::Table;
 use raster_ops::{
-    BrushRow, SourceReader, TernaryMixer, binary_law, brush_row, ternary_of, uses_pattern,
+    BrushRow, SourceReader, TernaryMixer, binary_law, brush_row, gap_colour, hatch_cells,
+    ternary_of, uses_pattern,
 };
 use span_fill::Span;
 
@@ -38,7 +39,7 @@ pub(crate) struct FillStyle<'d, 'a> {
 impl<'d, 'a> FillStyle<'d, 'a> {
     ghost use Rattle.painting.specs.FillStyles.{fill_style_paint, colour_of};
     ghost use Rattle.painting.specs.RowPainters.{HasEight, ReadsAs, ReadsNothing, painter_paint};
-    ghost use Rattle.painting.specs.RowsPainted.{AreRepeatedRowOps, IsRowOp, IsSameRowOp};
+    ghost use Rattle.painting.specs.RowsPainted.{AreRepeatedRowOps, IsRowOp, IsSameColour, IsSameRowOp};
 
     /// The fill style of a brush in the machine's current state.
     pub(crate) fn with<T: Table<'a>>(
@@ -92,10 +93,10 @@ impl<'d, 'a> FillStyle<'d, 'a> {
     pub(crate) fn painter<'p>(
         &'p self,
         columns: Span,
-        hatch: Option<&'p [RowOp<'static>]>,
+        hatch: Option<&'p HatchRows>,
     ) -> RowPainter<'p, 'd, 'a>
-        requires eight { IfSome hatch (λ row_ops. length row_ops.now ≡ 8) }
-        requires hatch { IfSome hatch (λ row_ops. AreRepeatedRowOps (fill_style_paint self.now) row_ops.now) }
+        requires eight { IfSome hatch (λ rows. length rows.now.row_ops ≡ 8) }
+        requires hatch { IfSome hatch (λ rows. AreRepeatedRowOps (fill_style_paint self.now) rows.now.row_ops) }
         ensures paint { SamePaint (painter_paint result) (fill_style_paint self.now) }
         ensures columns { result.columns ≡ columns }
         ensures clip { result.clip.now ≡ self.now.clip.now }
@@ -105,7 +106,7 @@ impl<'d, 'a> FillStyle<'d, 'a> {
     {
         let row_ops = match (self.same_row_op(), hatch) {
             (Some(row_op), _) => RowOps::Same(row_op),
-            (None, Some(row_ops)) => RowOps::Repeated(row_ops),
+            (None, Some(rows)) => RowOps::Repeated(rows),
             (None, None) => RowOps::EachRow(self),
         };
         RowPainter {
@@ -125,25 +126,34 @@ impl<'d, 'a> FillStyle<'d, 'a> {
         }
     }
 
-    /// Puts the row operations of a hatch without a source, if there are enough rows to use each of them, and returns
-    /// whether it did.
-    pub(crate) fn put_hatch_row_ops(&self, rows: Span, row_ops: &mut [RowOp<'static>]) -> bool
-        requires { length row_ops.old ≡ 8 }
-        ensures { IsTrue result → AreRepeatedRowOps (fill_style_paint self.now) row_ops.new }
+    /// The colour that every pixel becomes, if there is one, whatever the old colours are.
+    pub(crate) fn same_colour(&self) -> Option<Colour>
+        ensures { IfSome result (IsSameColour (fill_style_paint self.now)) }
     {
-        let (Brush::Hatched { .. }, None) = (self.brush, self.source) else {
-            return false;
+        match (self.brush, self.source) {
+            (Brush::Solid(colour), None) => self.operation.mix(colour, BLACK).constant(),
+            _ => None,
+        }
+    }
+
+    /// The row operations of a hatch without a source, if there are enough rows to use each of them.
+    pub(crate) fn hatch_rows(&self, rows: Span) -> Option<HatchRows>
+        ensures eight { IfSome result (λ hatch. length hatch.row_ops ≡ 8) }
+        ensures repeated { IfSome result (λ hatch. AreRepeatedRowOps (fill_style_paint self.now) hatch.row_ops) }
+    {
+        let (Brush::Hatched { hatch, colour }, None) = (self.brush, self.source) else {
+            return None;
         };
         if rows.to.saturating_sub(rows.from) < PERIOD {
-            return false;
+            return None;
         }
+        let gaps = gap_colour(self.modes.background_mode, self.modes.background_colour);
+        let mut row_ops = [RowOp::Nothing; 8];
         for y in 0..PERIOD {
-            let Some(row_op) = ungathered_row_op(&self.brush_row(y), self.operation) else {
-                return false;
-            };
-            row_ops[y as usize] = row_op;
+            let cells = hatch_cells(hatch, y);
+            row_ops[y as usize] = hatched_row_op(cells, colour, gaps, self.operation);
         }
-        true
+        Some(HatchRows { row_ops })
     }
 
     /// The row operation for some columns of a row. The source colours of these columns must have been gathered.

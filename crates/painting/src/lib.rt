@@ -11,6 +11,7 @@ mod blits;
 mod dots;
 mod drawing;
 mod figure_outline;
+mod fill_spans;
 mod fill_style;
 mod filling;
 mod line_pixels;

@@ -3,7 +3,7 @@
 ghost use Rattle.std.specs.Prelude.{◌≡◌, ◌-◌, ℕ, false};
 ghost use Rattle.painting.specs.LinePixels.{is_to_step};
 
-use canvas::{PixelAt, PixelSource};
+use canvas::{PixelAt, PixelSource, PixelStep};
 use span_fill::{LineSteps, line_law};
 
 /// The pixels of a line's remaining steps.
@@ -19,14 +19,14 @@ impl PixelSource for LinePixels {
 
     ghost ends_as = { λ start end. (x y : ℕ) → is_to_step end.steps x y ≡ false };
 
-    fn next_pixel(&mut self) -> Option<PixelAt> {
+    fn step(&mut self) -> PixelStep {
         line_law();
         match self.steps.next() {
-            Some(pixel) => Some(PixelAt {
+            Some(pixel) => PixelStep::Pixel(PixelAt {
                 x: pixel.x,
                 y: pixel.y,
             }),
-            None => None,
+            None => PixelStep::End,
         }
     }
 }

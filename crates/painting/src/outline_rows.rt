@@ -42,6 +42,7 @@ pub(crate) fn paint_rows(
     requires alone { ReadsNothing painter.now.row_ops }
     ensures pixels { PaintsShape (painter_paint painter.now) (part_has part scratch.old.rows.lines) canvas.old canvas.new }
     ensures few { CountsLayer canvas.old canvas.new }
+    ensures lines { scratch.new.rows.lines ≡ scratch.old.rows.lines }
     ensures capacity { scratch.new.rows.capacity ≡ scratch.old.rows.capacity }
 {
     writing_law();

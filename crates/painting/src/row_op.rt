@@ -1,6 +1,6 @@
 //! Row operations: how a brush changes the pixels of one row by a raster operation.
 
-ghost use Rattle.std.specs.Prelude.{◌≡◌, ◌≤◌, ◌<◌, ℕ, None, IfSome, true, is_some, length, slice_index_or};
+ghost use Rattle.std.specs.Prelude.{◌≡◌, ◌≤◌, ◌<◌, ℕ, true, is_some, length, slice_index_or};
 ghost use Rattle.mapping.specs.Colours.{black_colour};
 ghost use Rattle.mapping.specs.Mixes.{mixed_by};
 ghost use Rattle.mapping.specs.Pixels.{is_cell};
@@ -11,9 +11,10 @@ ghost use Rattle.painting.specs.Strips.{mixed_cells};
 ghost use Rattle.raster_ops.specs.BrushRows.{row_paint};
 ghost use Rattle.raster_ops.specs.Bytes.{HasBytes};
 ghost use Rattle.raster_ops.specs.TernaryOps.{ternary_colour};
+ghost use Rattle.raster_ops.specs.declared.rows.BrushRow.TheVariants.{Hatched};
 
 use crate::row_op_scratch::{BLACK, MAX_SIDE, MixScratch};
-use canvas::{Splat, Stripes};
+use canvas::Splat;
 use draw_ops::TernaryOp;
 use mapping::{Colour, Mix};
 use raster_ops::{BrushRow, TernaryMixer, copy_law, gather_pattern, pattern};
@@ -36,7 +37,7 @@ pub(crate) enum RowOp<'r> {
     /// Every pixel becomes this colour.
     Full(Splat),
     /// Every pixel becomes the stripes' colour at its column modulo 8.
-    Pattern(Stripes),
+    Pattern([Colour; 8]),
     /// Every pixel is mixed.
     Mixed(Mix),
     /// A pixel whose bit, at its column modulo 8, is set in `cells` is mixed by `mix`. Any other is mixed by `gaps`, or
@@ -74,38 +75,31 @@ pub(crate) fn row_op<'r>(
     ensures test { (x : ℕ) → is_inked result x ≡ is_some (row_paint row.now x) }
     ensures row_op { AreMade columns (is_inked result) (inked result) (joined_row operation.op (λ x. black_colour) row.now) }
 {
-    match ungathered_row_op(row, operation) {
-        Some(row_op) => row_op,
-        None => tile_row_op(row, operation, columns, scratch),
+    match *row {
+        BrushRow::Nothing => RowOp::Nothing,
+        BrushRow::Solid(colour) => full(operation.mix(colour, BLACK)),
+        BrushRow::Hatched {
+            cells,
+            colour,
+            gaps,
+        } => hatched_row_op(cells, colour, gaps, operation),
+        BrushRow::Tiled(_) => tile_row_op(row, operation, columns, scratch),
     }
 }
 
-/// The row operation of a brush without a source, unless the brush is a bitmap, whose colours must be gathered first.
-pub(crate) fn ungathered_row_op(
-    row: &BrushRow<'_>,
+/// The row operation of a hatch for one row, without a source.
+pub(crate) fn hatched_row_op(
+    cells: u8,
+    colour: Colour,
+    gaps: Option<Colour>,
     operation: TernaryMixer,
-) -> Option<RowOp<'static>>
-    ensures row_op { IfSome result (IsJoined operation.op row.now) }
-    ensures tiled { result ≡ None → (x : ℕ) → is_some (row_paint row.now x) ≡ true }
+) -> RowOp<'static>
+    ensures { IsJoined operation.op (Hatched cells colour gaps) result }
 {
-    match *row {
-        BrushRow::Nothing => Some(RowOp::Nothing),
-        BrushRow::Solid(colour) => Some(full(operation.mix(colour, BLACK))),
-        BrushRow::Hatched {
-            cells,
-            colour,
-            gaps: None,
-        } => Some(cells_only(cells, operation.mix(colour, BLACK))),
-        BrushRow::Hatched {
-            cells,
-            colour,
-            gaps: Some(gaps),
-        } => Some(two(
-            cells,
-            operation.mix(colour, BLACK),
-            operation.mix(gaps, BLACK),
-        )),
-        BrushRow::Tiled(_) => None,
+    let mix = operation.mix(colour, BLACK);
+    match gaps {
+        None => cells_only(cells, mix),
+        Some(gaps) => two(cells, mix, operation.mix(gaps, BLACK)),
     }
 }
 
@@ -259,7 +253,7 @@ fn two(cells: u8, mix: Mix, gaps: Mix) -> RowOp<'static>
     ensures row_op { (x : ℕ) (old : Colour) → inked result x old ≡ mixed_cells cells mix gaps x old }
 {
     if let (Some(colour), Some(gap)) = (mix.constant(), gaps.constant()) {
-        return RowOp::Pattern(Stripes::new(&pattern(cells, colour, gap)));
+        return RowOp::Pattern(pattern(cells, colour, gap));
     }
     RowOp::Cells {
         cells,

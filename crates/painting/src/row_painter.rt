@@ -14,13 +14,19 @@ use canvas::Canvas;
 use dc_stack::Clip;
 use span_fill::Span;
 
+/// The row operations of a hatch, which repeat by row.
+#[derive(Clone, Copy, Debug)]
+pub(crate) struct HatchRows {
+    pub(crate) row_ops: [RowOp<'static>; 8],
+}
+
 /// The row operations for the rows of a shape.
 #[derive(Clone, Copy, Debug)]
 pub(crate) enum RowOps<'p, 'd, 'a> {
     /// The same for all rows. It isn't copied for each row.
     Same(RowOp<'static>),
     /// Eight for a hatch, which repeat by row.
-    Repeated(&'p [RowOp<'static>]),
+    Repeated(&'p HatchRows),
     /// One for each row, computed from a fill style.
     EachRow(&'p FillStyle<'d, 'a>),
 }
@@ -59,7 +65,8 @@ impl<'p, 'd, 'a> RowPainter<'p, 'd, 'a> {
         let cuts = self.clip.cut_boxes();
         match &self.row_ops {
             RowOps::Same(row_op) => put_spans(canvas, row_op, y, spans, cuts),
-            RowOps::Repeated(row_ops) => {
+            RowOps::Repeated(hatch) => {
+                let row_ops = &hatch.row_ops[..];
                 put_spans(canvas, &row_ops[(y % PERIOD) as usize], y, spans, cuts);
             }
             RowOps::EachRow(paint) => {

@@ -5,8 +5,7 @@ ghost use Rattle.dc_stack.specs.Drawing.{edge_limit};
 
 use crate::row_op_scratch::RowOpScratch;
 use crate::visited_mask::VisitedMask;
-use crate::visited_mask_costs::FEW_POINTS;
-use span_fill::{Line, OutOfMemory, RowBuf, StrokeMask};
+use span_fill::{OutOfMemory, RowBuf, StrokeMask};
 use std::alloc::Global;
 
 /// The most lines of one drawing.
@@ -25,14 +24,12 @@ pub struct DrawingScratch {
     pub(crate) visited: Option<VisitedMask>,
     /// A mask for strokes by wide pens, if drawings can have more than one line and a pen is wide.
     pub(crate) mask: Option<StrokeMask>,
-    /// Space for the lines of a stroke, if drawings can have many lines.
-    pub(crate) copies: Vec<Line>,
     /// Scratch buffers for one row of pixels.
     pub(crate) row_ops: RowOpScratch,
 }
 
 impl DrawingScratch {
-    /// Allocates memory for drawings of up to this number of lines. For the largest drawings that is 392 MiB. Returns
+    /// Allocates memory for drawings of up to this number of lines. For the largest drawings that is 376 MiB. Returns
     /// `OutOfMemory` if an allocation fails. Strokes by wide pens can be painted without the mask, but then many lines
     /// take longer.
     pub fn for_lines(
@@ -46,12 +43,10 @@ impl DrawingScratch {
         let rows = rows_for(alloc, lines)?;
         let visited = visited_for(alloc, lines)?;
         let mask = mask_for(alloc, lines, has_wide_pens)?;
-        let copies = copies_for(alloc, lines)?;
         Ok(DrawingScratch {
             rows,
             visited,
             mask,
-            copies,
             row_ops,
         })
     }
@@ -73,18 +68,6 @@ fn visited_for(alloc: Global, lines: u32) -> Result<Option<VisitedMask>, OutOfMe
     }
     let visited = VisitedMask::new(alloc)?;
     Ok(Some(visited))
-}
-
-/// Space for the lines of a stroke, if drawings can have many lines.
-fn copies_for(alloc: Global, lines: u32) -> Result<Vec<Line>, OutOfMemory> {
-    let mut copies = Vec::new(alloc);
-    if lines <= FEW_POINTS {
-        return Ok(copies);
-    }
-    match copies.reserve(MAX_LINES.min(lines) as usize) {
-        Ok(()) => Ok(copies),
-        Err(_) => Err(OutOfMemory),
-    }
 }
 
 /// A mask, if drawings can have more than one line and a pen is wide.

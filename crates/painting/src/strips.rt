@@ -13,7 +13,7 @@ ghost use Rattle.painting.specs.declared.row_op.RowOp.TheVariants.{Full};
 use crate::regions::whole_law;
 use crate::row_op::RowOp;
 use crate::row_op_scratch::MAX_SIDE;
-use canvas::{Canvas, Splat, writing_law};
+use canvas::{Canvas, Splat, Stripes, writing_law};
 use dc_stack::ClipBox;
 use mapping::{Colour, Mix, Rect};
 use span_fill::Span;
@@ -35,7 +35,12 @@ fn put_row_op(canvas: &mut Canvas, row_op: &RowOp<'_>, y: u32, columns: Span)
     match row_op {
         RowOp::Nothing => {}
         RowOp::Full(splat) => canvas.put_swatch(columns.from, columns.to, y, splat),
-        RowOp::Pattern(stripes) => canvas.put_stripes(columns.from, columns.to, y, stripes),
+        RowOp::Pattern(pattern) => canvas.put_stripes(
+            columns.from,
+            columns.to,
+            y,
+            &Stripes::new(pattern),
+        ),
         RowOp::Mixed(mix) => canvas.mix_span(columns.from, columns.to, y, *mix),
         RowOp::Cells {
             cells,

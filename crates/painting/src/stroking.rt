@@ -1,11 +1,9 @@
 //! The only way to stroke lines.
 
 ghost use Rattle.std.specs.Prelude.{◌≡◌, ◌<◌, ◌≤◌, ℕ, [], false, length};
-ghost use Rattle.std.specs.List.{All};
 ghost use Rattle.dc_stack.specs.Values.{placed_value};
 ghost use Rattle.preflight_cert.specs.Rectangles.{rectangle_lines};
 ghost use Rattle.mapping.specs.Nibs.{IsNib};
-ghost use Rattle.span_fill.specs.Lines.{HasNearEnds};
 ghost use Rattle.span_fill.specs.WideStrokes.{in_wide_stroke, one_pixel};
 ghost use Rattle.painting.specs.Counts.{CountsLayer, HasCapacityForLayer};
 ghost use Rattle.painting.specs.Parts.{HasPart};
@@ -25,7 +23,7 @@ use crate::row_painter::{RowOps, RowPainter};
 use crate::scratch::DrawingScratch;
 use crate::stroke::Stroke;
 use crate::visited_mask::VisitedMask;
-use crate::visited_mask_costs::{are_copied, copy_lines, visited_mask_pays};
+use crate::visited_mask_costs::visited_mask_pays;
 use crate::visiting::{begin_visited_mask, visit_lines};
 use crate::wide_stroking::stroke_wide_lines;
 use crate::widening::widened;
@@ -66,9 +64,8 @@ pub(crate) fn stroke_lines<O: Outline + Copy>(
     stroke_wide_lines(canvas, scratch, lines, stroke);
 }
 
-/// Strokes lines by a nib of one pixel. A lone line is painted step by step. Several lines go through the visited mask
-/// if it can be used and costs less than rows of spans; otherwise they are painted as rows of spans. If many lines need
-/// an estimate, they are copied first, so that each is placed once.
+/// Strokes lines by a nib of one pixel. A lone line is painted step by step. The row buffer keeps several lines, so that
+/// each is placed once.
 fn stroke_thin_lines<O: Outline + Copy>(
     canvas: &mut Canvas,
     scratch: &mut DrawingScratch,
@@ -93,57 +90,42 @@ fn stroke_thin_lines<O: Outline + Copy>(
         return;
     }
     let drawn = visible_in(canvas, stroke.clip, lines.bounds.on_surface());
-    if are_copied(lines.points, drawn, stroke.clip) {
-        if let Some(pays) = copy_lines(outline, &mut scratch.copies, drawn) {
-            stroke_copies(canvas, scratch, pays, drawn, stroke);
-            return;
-        }
+    if drawn.columns.from >= drawn.columns.to {
+        return;
     }
-    if visited_mask_pays(outline, drawn, stroke.clip) {
-        if let Some(visited) = &mut scratch.visited {
-            if begin_visited_mask(visited, stroke.clip, drawn) {
-                stroke_by_visited_mask(canvas, visited, outline, stroke);
-                return;
-            }
-        }
-    }
-    stroke_rows(canvas, scratch, outline, drawn, stroke);
+    let mut placed = outline;
+    scratch.rows.keep(&mut placed);
+    stroke_kept(canvas, scratch, drawn, stroke);
 }
 
-/// Strokes the copied lines in a region that contains everything visible of them: through the visited mask if that
-/// costs less, or else by rows of spans.
-fn stroke_copies(
+/// Strokes the lines that the row buffer has taken by a nib of one pixel, in a region that contains everything visible
+/// of them: through the visited mask if it can be used and costs less, or else by rows of spans.
+pub(crate) fn stroke_kept(
     canvas: &mut Canvas,
     scratch: &mut DrawingScratch,
-    pays: bool,
     drawn: Region,
     stroke: &Stroke<'_>,
 )
     requires countable { HasCapacityForLayer canvas.old }
-    requires capacity { length scratch.old.copies.items ≤ scratch.old.rows.capacity }
-    requires near { All HasNearEnds scratch.old.copies.items }
     requires nib { stroke.now.nib ≡ one_pixel }
-    requires visible { HasStroke one_pixel stroke.now scratch.old.copies.items canvas.old drawn }
+    requires visible { HasStroke one_pixel stroke.now scratch.old.rows.lines canvas.old drawn }
     requires columns { IsOfSide drawn.columns }
     requires rows { IsOfSide drawn.rows }
-    ensures pixels { StrokesLines one_pixel stroke.now scratch.old.copies.items canvas.old canvas.new }
+    ensures pixels { StrokesLines one_pixel stroke.now scratch.old.rows.lines canvas.old canvas.new }
     ensures few { CountsLayer canvas.old canvas.new }
     ensures capacity { scratch.new.rows.capacity ≡ scratch.old.rows.capacity }
 {
-    let mut outline = LineList {
-        rest: scratch.copies.as_slice(),
-    };
-    if pays {
-        if let Some(visited) = &mut scratch.visited {
+    let DrawingScratch { rows, visited, .. } = &mut *scratch;
+    let kept = LineList { rest: rows.lines() };
+    if visited_mask_pays(kept, drawn, stroke.clip) {
+        if let Some(visited) = visited {
             if begin_visited_mask(visited, stroke.clip, drawn) {
-                stroke_by_visited_mask(canvas, visited, outline, stroke);
+                stroke_by_visited_mask(canvas, visited, kept, stroke);
                 return;
             }
         }
     }
-    scratch
-        .rows
-        .begin_stroke(&mut outline, stroke.nib, drawn.rows.from);
+    rows.begin_kept_stroke(stroke.nib, drawn.rows.from);
     paint_begun(canvas, scratch, drawn, stroke);
 }
 

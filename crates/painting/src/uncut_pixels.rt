@@ -6,7 +6,7 @@ ghost use Rattle.dc_stack.specs.Values.{placed_value};
 ghost use Rattle.painting.specs.LinePixels.{is_to_step};
 
 use crate::line_pixels::LinePixels;
-use canvas::{PixelAt, PixelSource};
+use canvas::{PixelSource, PixelStep};
 use dc_stack::Clip;
 
 /// The pixels of a line's remaining steps that a clip contains.
@@ -23,12 +23,17 @@ impl<'c> PixelSource for UncutPixels<'c> {
 
     ghost ends_as = { λ start end. Unit {0} };
 
-    fn next_pixel(&mut self) -> Option<PixelAt> {
-        while let Some(pixel) = self.pixels.next_pixel() {
-            if self.clip.has(pixel.x, pixel.y) {
-                return Some(pixel);
+    fn step(&mut self) -> PixelStep {
+        match self.pixels.step() {
+            PixelStep::Pixel(pixel) => {
+                if self.clip.has(pixel.x, pixel.y) {
+                    PixelStep::Pixel(pixel)
+                } else {
+                    PixelStep::Nothing
+                }
             }
+            PixelStep::Nothing => PixelStep::Nothing,
+            PixelStep::End => PixelStep::End,
         }
-        None
     }
 }

@@ -7,7 +7,7 @@ ghost use Rattle.painting.specs.VisitedMask.{is_taken};
 
 use crate::line_pixels::LinePixels;
 use crate::visited_mask::VisitedMask;
-use canvas::{PixelAt, PixelSource};
+use canvas::{PixelSource, PixelStep};
 
 /// The pixels of a line's remaining steps that aren't marked as visited. A pixel is marked when it is returned.
 ///
@@ -30,12 +30,17 @@ impl<'s> PixelSource for UntakenPixels<'s> {
 
     ghost ends_as = { TakesAll };
 
-    fn next_pixel(&mut self) -> Option<PixelAt> {
-        while let Some(pixel) = self.pixels.next_pixel() {
-            if self.visited.take(pixel.x, pixel.y) {
-                return Some(pixel);
+    fn step(&mut self) -> PixelStep {
+        match self.pixels.step() {
+            PixelStep::Pixel(pixel) => {
+                if self.visited.take(pixel.x, pixel.y) {
+                    PixelStep::Pixel(pixel)
+                } else {
+                    PixelStep::Nothing
+                }
             }
+            PixelStep::Nothing => PixelStep::Nothing,
+            PixelStep::End => PixelStep::End,
         }
-        None
     }
 }

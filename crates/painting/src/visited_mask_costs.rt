@@ -1,9 +1,6 @@
 //! Estimates whether a stroke costs less by a visited mask or by rows of spans. This chooses the method and doesn't
 //! affect what is painted.
 
-ghost use Rattle.std.specs.Prelude.{◌≡◌, ◌≤◌, IfSome, vec_capacity};
-ghost use Rattle.std.specs.List.{All};
-ghost use Rattle.span_fill.specs.Lines.{HasNearEnds};
 ghost use Rattle.painting.specs.Regions.{IsOfSide};
 
 use crate::visited_mask::pixels;
@@ -15,9 +12,6 @@ const STEPS_A_ROW: usize = 4;
 
 /// For a line with fewer columns and rows than this, both methods cost about the same.
 const SHORT: u32 = 16;
-
-/// The most points of an outline whose lines are placed twice: once for the estimate and once for painting.
-pub(crate) const FEW_POINTS: u32 = 16;
 
 /// An estimate of what an outline's long lines have in a box: the number of pixels of all of them, and the sum of their
 /// numbers of rows.
@@ -82,38 +76,6 @@ fn shares_of<O: Outline + Copy>(outline: O, drawn: Region) -> Shares
         shares = shares.with(line, drawn);
     }
     shares
-}
-
-/// Whether the lines of an outline with this number of points are copied during the estimate. If there are many,
-/// copying places each point only once. There is nothing to estimate if the box is narrow or the clip cuts boxes out.
-pub(crate) fn are_copied(points: u32, drawn: Region, clip: &Clip) -> bool {
-    points > FEW_POINTS && !is_narrow(drawn) && clip.cut_boxes().is_empty()
-}
-
-/// Copies the lines of an outline over the earlier ones, and returns whether the visited mask costs less for them.
-/// Returns `None` if the lines exceed the capacity.
-pub(crate) fn copy_lines<O: Outline + Copy>(
-    outline: O,
-    copies: &mut Vec<Line>,
-    drawn: Region,
-) -> Option<bool>
-    requires columns { IsOfSide drawn.columns }
-    requires rows { IsOfSide drawn.rows }
-    ensures lines { IfSome result (λ pays. copies.new.items ≡ O.lines outline) }
-    ensures near { All HasNearEnds copies.new.items }
-    ensures capacity { vec_capacity copies.new ≡ vec_capacity copies.old }
-{
-    let mut lines = outline;
-    let mut shares = Shares::NONE;
-    copies.clear();
-    while let Some(line) = lines.next_line() {
-        if copies.len() >= copies.capacity() {
-            return None;
-        }
-        copies.push_reserved(line);
-        shares = shares.with(line, drawn);
-    }
-    Some(shares.are_for_visited())
 }
 
 /// Whether a box has so few columns that each of its lines is short or y-major.

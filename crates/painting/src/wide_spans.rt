@@ -5,7 +5,7 @@ ghost use Rattle.span_fill.specs.Spans.{in_span};
 ghost use Rattle.span_fill.specs.StrokeMasks.{pixels_left, to_come};
 ghost use Rattle.painting.specs.WideSpans.{is_wide_to_come, rows_left};
 
-use canvas::{RowSpan, SpanSource};
+use canvas::{RowSpan, SpanSource, SpanStep};
 use span_fill::{Span, StrokeMask, WideLine, WideRow};
 
 /// The remaining rows of a wide line, within some columns of a surface.
@@ -29,11 +29,11 @@ impl SpanSource for WideLineSpans {
 
     ghost ends_as = { λ start end. Unit {0} };
 
-    fn next_span(&mut self) -> Option<RowSpan> {
+    fn step(&mut self) -> SpanStep {
         let columns = self.columns;
         match self.wide.next() {
-            Some(row) => Some(span_of(row, columns)),
-            None => None,
+            Some(row) => SpanStep::Span(span_of(row, columns)),
+            None => SpanStep::End,
         }
     }
 }
@@ -64,14 +64,14 @@ impl<'m> SpanSource for MaskSpans<'m> {
 
     ghost ends_as = { λ start end. Unit {0} };
 
-    fn next_span(&mut self) -> Option<RowSpan> {
+    fn step(&mut self) -> SpanStep {
         match self.mask.next_span() {
-            Some(span) => Some(RowSpan {
+            Some(span) => SpanStep::Span(RowSpan {
                 y: span.y,
                 from: span.columns.from,
                 to: span.columns.to,
             }),
-            None => None,
+            None => SpanStep::End,
         }
     }
 }

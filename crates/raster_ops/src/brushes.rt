@@ -10,7 +10,7 @@ ghost use Rattle.raster_ops.specs.BrushRows.{repeated_colour, repeated_row, row_
 ghost use Rattle.raster_ops.specs.Gathered.{AreAt, AreKeptOutside, ArePaintsAt, HaveBytes, HavePaintBytes};
 ghost use Rattle.raster_ops.specs.Paints.{brush_paint, gap_paint};
 
-use crate::hatches::{has_cell, row_cells};
+use crate::hatches::{has_cell, hatch_cells};
 use crate::patterns::pattern;
 use crate::rows::{BrushRow, TileRow};
 use dib_views::DibView;
@@ -34,7 +34,7 @@ pub fn brush_at(
             if has_cell(hatch, x, y) {
                 Some(colour)
             } else {
-                gap(mode, background)
+                gap_colour(mode, background)
             }
         }
         Brush::Tiled(view) => {
@@ -57,9 +57,9 @@ pub fn brush_row<'a>(
         Brush::Solid(colour) => BrushRow::Solid(colour),
         Brush::Null => BrushRow::Nothing,
         Brush::Hatched { hatch, colour } => BrushRow::Hatched {
-            cells: row_cells(hatch, y),
+            cells: hatch_cells(hatch, y),
             colour,
-            gaps: gap(mode, background),
+            gaps: gap_colour(mode, background),
         },
         Brush::Tiled(view) => BrushRow::Tiled(tile_row(&view, y)),
     }
@@ -163,7 +163,7 @@ fn next_column(column: u32, width: u32) -> u32
 }
 
 /// The colour of a hatch's gaps, if they are painted ([MS-WMF] 2.1.1.20).
-fn gap(mode: BackgroundMode, background: Colour) -> Option<Colour>
+pub fn gap_colour(mode: BackgroundMode, background: Colour) -> Option<Colour>
     ensures { result ≡ gap_paint mode background }
 {
     match mode {

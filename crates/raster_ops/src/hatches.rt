@@ -24,7 +24,7 @@ pub(crate) fn has_cell(hatch: Hatch, x: u32, y: u32) -> bool
 }
 
 /// The cells of a hatch in row `y`: bit `x % 8` is 1 if its lines cover column `x`.
-pub(crate) fn row_cells(hatch: Hatch, y: u32) -> u8
+pub fn hatch_cells(hatch: Hatch, y: u32) -> u8
     ensures { (x : ℕ) → is_cell result x ≡ has_cell hatch x y }
 {
     let row = y % 8;

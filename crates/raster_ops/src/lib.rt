@@ -42,7 +42,8 @@ mod steps;
 mod ternary;
 
 pub use binary::{binary_law, rop2, ternary_of};
-pub use brushes::{brush_at, brush_row, gather_pattern};
+pub use brushes::{brush_at, brush_row, gap_colour, gather_pattern};
+pub use hatches::hatch_cells;
 pub use patterns::pattern;
 pub use rectangles::is_readable;
 pub use rows::{BrushRow, TileRow};

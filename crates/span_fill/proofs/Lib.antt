@@ -21,6 +21,7 @@ pub mod EventLemmas
 pub mod MoveLemmas
 pub mod FillLemmas
 pub mod RowLemmas
+pub mod LonePairLemmas
 pub mod CrossedLemmas
 pub mod WindingLemmas
 pub mod TableLemmas

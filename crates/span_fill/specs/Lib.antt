@@ -19,6 +19,7 @@ pub mod WideStrokes
 pub mod WideEdges
 pub mod StrokeRows
 pub mod Sweep
+pub mod LonePairs
 pub mod CountedRows
 pub mod Edges
 pub mod Admitting

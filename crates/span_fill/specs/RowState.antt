@@ -1,9 +1,9 @@
 -- A row buffer as callers see it.
-use Rattle.std.specs.Prelude.{◌≡◌, ℕ, List, []}
+use Rattle.std.specs.Prelude.{◌≡◌, ℕ, ◌+◌, ◌&&◌, List, [], Option, Some, None}
 use Rattle.std.specs.List.Sorted.{IsPermutation}
 use Rattle.span_fill.specs.Crossings.{crossings_of}
 use Rattle.span_fill.specs.Fill.{in_fill}
-use Rattle.span_fill.specs.Spans.{AreRow}
+use Rattle.span_fill.specs.Spans.{AreRow, in_span}
 use Rattle.span_fill.specs.WideStrokes.{in_wide_stroke}
 use Rattle.mapping.specs.declared.nib.Nib.{Nib}
 use Rattle.span_fill.specs.declared.crossing.Crossing.{Crossing}
@@ -45,11 +45,29 @@ FillsRow idle lines y interval spans = ⊥
 FillsRow (filling rule) lines y interval spans = AreRow (λ x. in_fill rule lines x y) interval spans
 FillsRow (stroking nib) lines y interval spans = AreRow (λ x. in_wide_stroke nib lines x y) interval spans
 
+-- the span is what is inside of the row within the interval
+abbrev pub FillsLoneSpan : RowWork → List Line → ℕ → Span → Span → Type 0
+FillsLoneSpan idle lines y interval span = ⊥
+FillsLoneSpan (filling rule) lines y interval span = (x : ℕ) → in_span span x ≡ (in_span interval x && in_fill rule lines x y)
+FillsLoneSpan (stroking nib) lines y interval span = ⊥
+
 -- the buffer continues its work
 pub record SameWork (old new : RowState) : Type 0 where
   pub lines : new.lines ≡ old.lines
   pub work : new.work ≡ old.work
   pub capacity : new.capacity ≡ old.capacity
+
+-- the span is all of the next row, and the buffer advances to the row after it
+pub record GivesLone (old : RowState) (interval span : Span) (new : RowState) : Type 0 where
+  pub filled : FillsLoneSpan old.work old.lines old.next interval span
+  pub next : new.next ≡ old.next + 1
+  pub spans : new.spans ≡ old.spans
+  pub same : SameWork old new
+
+-- the only span of the next row, or nothing, and then nothing changes
+abbrev pub GivesLoneSpan : RowState → Span → Option Span → RowState → Type 0
+GivesLoneSpan old interval None new = new ≡ old
+GivesLoneSpan old interval (Some span) new = GivesLone old interval span new
 
 -- the crossings of the next row were found, each once and in no particular order, and nothing else differs
 pub record HasFoundCrossings (old new : RowState) : Type 0 where
@@ -80,5 +98,12 @@ pub record BeginsStroke (nib : Nib) (given : List Line) (y size : ℕ) (new : Ro
   pub lines : new.lines ≡ given
   pub work : new.work ≡ stroking nib
   pub next : new.next ≡ y
+  pub spans : new.spans ≡ []
+  pub capacity : new.capacity ≡ size
+
+-- the buffer has these lines, and no work
+pub record KeepsLines (given : List Line) (size : ℕ) (new : RowState) : Type 0 where
+  pub lines : new.lines ≡ given
+  pub work : new.work ≡ idle
   pub spans : new.spans ≡ []
   pub capacity : new.capacity ≡ size

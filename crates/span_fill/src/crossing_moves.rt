@@ -24,6 +24,7 @@ impl ActiveEdge {
 }
 
 /// Moves all edges to the next row. Returns whether they are sorted by the columns where they cross it.
+#[inline]
 pub(crate) fn move_edges(active: &mut Vec<ActiveEdge>) -> bool
     requires { All EdgeCanMove active.old.items }
     ensures edges { active.new.items ≡ map moved active.old.items }
@@ -35,6 +36,7 @@ pub(crate) fn move_edges(active: &mut Vec<ActiveEdge>) -> bool
 }
 
 /// Moves all edges to the next row. Returns whether they are sorted by their columns.
+#[inline]
 fn move_all(active: &mut [ActiveEdge]) -> bool
     requires { All EdgeCanMove active.old }
     ensures edges { active.new ≡ map moved active.old }

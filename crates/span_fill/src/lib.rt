@@ -5,6 +5,8 @@
 //! - The spans of a row contain a pixel exactly if it is inside the polygons, by an integer inequality for that pixel
 //!   alone. They are sorted, at least one pixel apart and within the interval (`RowBuf::next_fill`, `fill_row`, by
 //!   `FillsRow`).
+//! - If just two edges cross the next row of a fill, what is inside is one span, which is returned and isn't kept
+//!   (`RowBuf::next_lone_span`).
 //! - The spans of a row of lines contain a pixel exactly if the nib covers it as it moves along one of the lines. They
 //!   are sorted, apart and within the interval too (`RowBuf::next_stroke`, `stroke_row`).
 //! - The crossings of lines with the next row are found as a quotient and a remainder of the numbers in the definition,
@@ -47,6 +49,7 @@ mod insertion;
 mod joining;
 mod laws;
 mod line;
+mod lone_pair;
 mod major_line;
 mod mask_frame;
 mod mask_marks;

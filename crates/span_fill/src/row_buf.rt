@@ -1,9 +1,12 @@
 //! A buffer that computes the spans of an outline's rows, one row after another.
 
 ghost use Rattle.std.specs.Prelude.{◌≡◌, ◌+◌, ◌<◌, ◌≤◌, ◌^◌, [], length, OnOk, OnErr};
+ghost use Rattle.std.specs.List.{All};
 ghost use Rattle.mapping.specs.Nibs.{IsNib};
-ghost use Rattle.span_fill.specs.RowState.{BeginsFill, BeginsStroke, DiffersInCapacity, FillsRow, HasFoundCrossings, SameWork, IsFillingWork, IsStrokingWork, filling, idle, stroking};
+ghost use Rattle.span_fill.specs.Lines.{HasNearEnds};
+ghost use Rattle.span_fill.specs.RowState.{BeginsFill, BeginsStroke, DiffersInCapacity, FillsRow, HasFoundCrossings, KeepsLines, SameWork, IsFillingWork, IsStrokingWork, filling, idle, stroking};
 
+mod lone_spans;
 mod sweeping;
 
 use crate::active_edges::{admit, sort_edges};
@@ -190,7 +193,34 @@ impl RowBuf {
         requires row { y ≤ 8192 }
         ensures { BeginsStroke nib (O.lines outline.old) y self.old.capacity self.new }
     {
+        self.keep(outline);
+        self.begin_kept_stroke(nib, y);
+    }
+
+    /// Takes all lines of the outline and keeps them, without work.
+    pub fn keep<O: Outline>(&mut self, outline: &mut O)
+        requires { length (O.lines outline.old) ≤ self.old.capacity }
+        ensures { KeepsLines (O.lines outline.old) self.old.capacity self.new }
+    {
         copy_lines(outline, &mut self.lines);
+        self.spans.clear();
+        self.work = Work::Idle;
+    }
+
+    /// The lines that were taken last.
+    pub fn lines(&self) -> &[Line]
+        ensures lines { result.now ≡ self.now.lines }
+        ensures near { All HasNearEnds result.now }
+    {
+        self.lines.as_slice()
+    }
+
+    /// Starts with the pixels of the lines that were taken last, at row `y`.
+    pub fn begin_kept_stroke(&mut self, nib: Nib, y: u32)
+        requires nib { IsNib nib }
+        requires row { y ≤ 8192 }
+        ensures { BeginsStroke nib self.old.lines y self.old.capacity self.new }
+    {
         self.spans.clear();
         self.work = Work::Stroking;
         self.next = y;
@@ -226,7 +256,7 @@ impl RowBuf {
         self.next_stroke(interval);
     }
 
-    /// The spans of the latest row, in order, at least one pixel apart.
+    /// The spans that were computed last, in order, at least one pixel apart.
     pub fn spans(&self) -> &[Span]
         ensures { result.now ≡ self.now.spans }
     {

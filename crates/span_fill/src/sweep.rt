@@ -70,7 +70,7 @@ fn has_pair(rule: FillRule, edges: &[ActiveEdge], place: usize) -> bool
 }
 
 /// Whether nothing is inside after the two edges.
-fn is_over_after(rule: FillRule, left: ActiveEdge, right: ActiveEdge) -> bool
+pub(crate) fn is_over_after(rule: FillRule, left: ActiveEdge, right: ActiveEdge) -> bool
     ensures { result ≡ is_over_after rule left right }
 {
     match rule {
@@ -113,7 +113,7 @@ fn sweep_rest(
 }
 
 /// The edge's column, limited to the rest of the interval.
-fn column_after(at: u32, edge: &ActiveEdge, end: u32) -> u32
+pub(crate) fn column_after(at: u32, edge: &ActiveEdge, end: u32) -> u32
     requires { end ≤ 8192 }
     ensures { result ≡ max at (min (column_of edge.now) end) }
 {

@@ -1,6 +1,6 @@
 //! A walk along a line, which moves step by step by additions.
 
-ghost use Rattle.std.specs.Prelude.{◌≡◌, ◌+◌, ◌≤◌, pos, negsuc, ◌^◌, ◌≤ℤ◌, neg_ℤ};
+ghost use Rattle.std.specs.Prelude.{◌≡◌, ◌+◌, ◌<◌, ◌≤◌, pos, negsuc, ◌^◌, ◌≤ℤ◌, ◌+ℤ◌, neg_ℤ};
 ghost use Rattle.span_fill.specs.Axis.{ahead};
 
 use crate::pixel::Pixel;
@@ -53,24 +53,32 @@ impl Walk {
         requires { IsSmall self }
         ensures { IsMoved self result }
     {
-        let u = moved(self.u, self.forwards);
         let sum = self.rest + self.more;
-        if sum < self.full {
-            Walk {
-                u,
-                v: self.v + self.back,
-                rest: sum,
-                ..self
-            }
-        } else {
-            Walk {
-                u,
-                v: self.v + self.back + 1,
-                rest: sum - self.full,
-                ..self
-            }
+        Walk {
+            u: moved(self.u, self.forwards),
+            v: raised(self.v + self.back, sum, self.full),
+            rest: lowered(sum, self.full),
+            ..self
         }
     }
+}
+
+/// The coordinate, plus 1 if a sum reaches the divisor.
+fn raised(v: i32, sum: u32, full: u32) -> i32
+    requires { v ≤ℤ pos (2 ^ 30) }
+    ensures below { sum < full → result ≡ v }
+    ensures over { full ≤ sum → result ≡ v +ℤ pos 1 }
+{
+    v + i32::from(full <= sum)
+}
+
+/// What remains of a sum, minus the divisor if it reaches that. There is no branch, because it would often be
+/// mispredicted.
+fn lowered(sum: u32, full: u32) -> u32
+    ensures below { sum < full → result ≡ sum }
+    ensures over { full ≤ sum → result + full ≡ sum }
+{
+    sum.min(sum.wrapping_sub(full))
 }
 
 /// The next coordinate in this direction.

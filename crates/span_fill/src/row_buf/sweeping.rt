@@ -96,6 +96,7 @@ impl RowBuf {
     }
 
     /// Advances to the next row.
+    #[inline]
     pub(super) fn step(&mut self)
         requires filling { IsFillingWork self.old.work }
         requires next { self.old.next < 8192 }
@@ -103,11 +104,25 @@ impl RowBuf {
         ensures next { self.new.next ≡ self.old.next + 1 }
         ensures same { SameWork self.old self.new }
     {
-        self.next += 1;
-        if self.next < self.event {
+        let next = self.next + 1;
+        if next < self.event {
+            self.next = next;
             self.is_sorted = move_edges(&mut self.active);
-            return;
+        } else {
+            self.pass_event();
         }
+    }
+
+    /// The same where edges end or begin, or where rows are read from a table.
+    #[inline(never)]
+    fn pass_event(&mut self)
+        requires filling { IsFillingWork self.old.work }
+        requires next { self.old.next < 8192 }
+        ensures spans { self.new.spans ≡ self.old.spans }
+        ensures next { self.new.next ≡ self.old.next + 1 }
+        ensures same { SameWork self.old self.new }
+    {
+        self.next += 1;
         if self.table.is_used {
             return;
         }

@@ -59,8 +59,8 @@ placed_box-inside-requires g c =
       second = lands_place c.place-place.result s c.in-Rectangle.second c.place-place.ensures both.1;
     }
 
-pub returns-in_default-painting : goal.returns-in_default-painting
-returns-in_default-painting g c =
+pub returns-in_default-painting-clause-drawn : goal.returns-in_default-painting-clause-drawn
+returns-in_default-painting-clause-drawn g c =
     let s = c.args.machine.now.surface in
     let tools = tools_of c.args.machine.now.state.dc in
     let brush = ap (λ (d : DcValue). d.selected.brush.object) c.dc.ensures.value in
@@ -70,13 +70,14 @@ returns-in_default-painting g c =
     let lines = c.new-outline.ensures ∙ closed_lines_along s figures in
     let drawn = painted_layer c.writing_law.ensures s c.args.canvas.now c.fill_inside.new.canvas c.whole_law.ensures.whole c.requires.may.held (brushed_now tools.brush tools) tools (fill_style_paint c.with-paint.result) asked _ shape
     (λ x y. rw (c.with-paint.ensures.modes, lines) refl) c.fill_inside.ensures.pixels c.fill_inside.ensures.few in
-    record {
-      drawn = rw (c.in-Figures.is, fills_figures c.in-Figures.painting figures tools c.in_default-painting.not-Stroke, brush_fills c.dc.result.now.selected.brush shape tools c.in_default.not-Null brush) drawn;
-      capacity = c.fill_inside.ensures.capacity;
-    }
+    rw (c.in-Figures.is, fills_figures c.in-Figures.painting figures tools c.in_default-painting.not-Stroke, brush_fills c.dc.result.now.selected.brush shape tools c.in_default.not-Null brush) drawn
 
-pub returns-in-Rectangle : goal.returns-in-Rectangle
-returns-in-Rectangle g c =
+-- the row buffer has taken the lines of the closed figures
+pub returns-in_default-painting-clause-taken : goal.returns-in_default-painting-clause-taken
+returns-in_default-painting-clause-taken g c = λ taken. rw c.in-Figures.is (c.fill_inside.ensures.taken taken ∙ c.new-outline.ensures)
+
+pub returns-in-Rectangle-clause-drawn : goal.returns-in-Rectangle-clause-drawn
+returns-in-Rectangle-clause-drawn g c =
     let s = c.args.machine.now.surface in
     let tools = tools_of c.args.machine.now.state.dc in
     let brush = ap (λ (d : DcValue). d.selected.brush.object) c.dc.ensures.value in
@@ -84,7 +85,4 @@ returns-in-Rectangle g c =
     let shape = inside_rectangle c.in-Rectangle.first c.in-Rectangle.second c.in-Rectangle.edges in
     let drawn = painted_layer c.writing_law.ensures s c.args.canvas.now c.fill_box.new.canvas c.whole_law.ensures.whole c.requires.may.held (brushed_now tools.brush tools) tools (fill_style_paint c.with-paint.result) asked _ shape
     (λ x y. ap (λ (box : Rect). in_box box x y) c.placed_box-inside.ensures.value ∙ ap (λ (r : Surface). in_box (rectangle_on r c.in-Rectangle.first c.in-Rectangle.second c.in-Rectangle.edges) x y) c.place-place.ensures) c.fill_box.ensures.pixels c.fill_box.ensures.few in
-    record {
-      drawn = rw (c.in-Rectangle.is, brush_fills c.dc.result.now.selected.brush shape tools c.in_default.not-Null brush) drawn;
-      capacity = refl;
-    }
+    rw (c.in-Rectangle.is, brush_fills c.dc.result.now.selected.brush shape tools c.in_default.not-Null brush) drawn

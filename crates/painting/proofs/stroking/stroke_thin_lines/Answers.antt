@@ -1,15 +1,11 @@
-use Rattle.std.proofs.Common.{◌≡◌, ◌&&◌, ◌||◌, true, false, Bool, List, pos, refl, sym, ap, ◌∙◌}
-use Rattle.mapping.specs.Mixes.{mixed_by}
-use Rattle.dc_stack.specs.Values.{placed_value}
-use Rattle.span_fill.specs.Spans.{in_region}
+use Rattle.std.proofs.Common.{◌≡◌, ◌||◌, true, false, Bool, List, pos, refl, sym, ap, ◌∙◌}
 use Rattle.span_fill.specs.Strokes.{in_stroke, on_line}
 use Rattle.span_fill.specs.WideStrokes.{in_wide_stroke, one_pixel}
 use Rattle.span_fill.specs.declared.line.Line.{Line}
-use Rattle.span_fill.specs.declared.span.Region.{Region}
-use Rattle.painting.specs.Painted.{paints}
 use Rattle.painting.specs.PenStrokes.{stroke_paint}
+use Rattle.painting.proofs.RegionLemmas.{none_seen}
 use Rattle.painting.proofs.RowLemmas.{few_written}
-use Rattle.painting.proofs.VisibleLemmas.{painted_shape, seen_uncut, seen_within}
+use Rattle.painting.proofs.VisibleLemmas.{painted_shape, seen_within}
 use Rattle.painting.proofs.stroking.stroke_thin_lines.Goals as goal
 
 -- a lone line is a stroke
@@ -29,17 +25,16 @@ pub returns-in-Some-clause-few : goal.returns-in-Some-clause-few
 returns-in-Some-clause-few g c = few_written c.writing_law.ensures _ _ c.args.canvas.now c.step_line.new.canvas c.step_line.ensures c.whole_law.ensures.pixels
 
 -- what is visible of the lines lies in the region
-pub stroke_by_visited_mask-requires-clause-visible : goal.stroke_by_visited_mask-requires-clause-visible
-stroke_by_visited_mask-requires-clause-visible g c =
+pub returns-then-drawn-clause-pixels : goal.returns-then-drawn-clause-pixels
+returns-then-drawn-clause-pixels g c =
     let shape = in_wide_stroke one_pixel (g.O.Outline.lines c.args.lines.outline) in
-    rw (c.begin_visited_mask.ensures.region c.if-begin_visited_mask.true) (seen_within _ _ shape c.args.canvas.now c.visible_in-drawn.result (c.on_surface.ensures shape c.requires.within) c.visible_in-drawn.ensures.visible)
+    none_seen (stroke_paint c.args.stroke.now) shape c.args.canvas.now c.writing_law.ensures c.whole_law.ensures.whole c.visible_in-drawn.result
+    (seen_within _ _ shape c.args.canvas.now c.visible_in-drawn.result (c.on_surface.ensures shape c.requires.within) c.visible_in-drawn.ensures.visible) c.if-drawn.true
 
-pub stroke_copies-requires-clause-visible : goal.stroke_copies-requires-clause-visible
-stroke_copies-requires-clause-visible g c =
+pub stroke_kept-requires-clause-visible : goal.stroke_kept-requires-clause-visible
+stroke_kept-requires-clause-visible g c =
     let shape = in_wide_stroke one_pixel (g.O.Outline.lines c.args.lines.outline) in
-    rw c.in-Some-copy_lines.ensures.lines (seen_within _ _ shape c.args.canvas.now c.visible_in-drawn.result (c.on_surface.ensures shape c.requires.within) c.visible_in-drawn.ensures.visible)
+    rw c.keep.ensures.lines (seen_within _ _ shape c.args.canvas.now c.visible_in-drawn.result (c.on_surface.ensures shape c.requires.within) c.visible_in-drawn.ensures.visible)
 
-pub stroke_rows-requires-clause-visible : goal.stroke_rows-requires-clause-visible
-stroke_rows-requires-clause-visible g c =
-    let shape = in_wide_stroke one_pixel (g.O.Outline.lines c.args.lines.outline) in
-    rw c.requires.nib (seen_within _ _ shape c.args.canvas.now c.visible_in-drawn.result (c.on_surface.ensures shape c.requires.within) c.visible_in-drawn.ensures.visible)
+pub returns-clause-pixels : goal.returns-clause-pixels
+returns-clause-pixels g c = rw c.keep.ensures.lines at c.stroke_kept.ensures.pixels

@@ -25,10 +25,10 @@ returns-in-EachRow-clause-painted c =
 
 pub returns-in-Repeated-clause-painted : goal.returns-in-Repeated-clause-painted
 returns-in-Repeated-clause-painted c =
-    let row_ops = c.in-Repeated.row_ops.now in
+    let row_ops = c.in-Repeated.hatch.now.row_ops in
     let eight : length row_ops ≡ 8 = rw c.in-Repeated.is at c.requires.eight in
-    let given = get_or row_ops (c.args.y % 8) c.index-row_ops-y.result in
-    let is : given ≡ repeated_row_op row_ops c.args.y = get_or_default row_ops (c.args.y % 8) c.index-row_ops-y.result Nothing (omega (arith, eight)) in
+    let given = c.index-row_ops-y.result in
+    let is : given ≡ repeated_row_op row_ops c.args.y = c.index-row_ops-y.is ∙ get_or_default row_ops (c.args.y % 8) c.index-row_ops-y.result Nothing (omega (arith, eight)) in
     record {
       row_op = given;
       is_row_op = record { test = λ x. rw (c.in-Repeated.is, is) refl; colour = λ x old low high i. rw (c.in-Repeated.is, is) refl };

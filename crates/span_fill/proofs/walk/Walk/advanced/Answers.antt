@@ -10,26 +10,14 @@ use Rattle.span_fill.proofs.walk.Walk.advanced.Goals as goal
 in_bits : (z : ℤ) → FitsSigned w32 z → to_z w32 (of_z w32 z) ≡ z
 in_bits z fits = simp to_z-of_z
 
-pub returns-then-sum-self : goal.returns-then-sum-self
-returns-then-sum-self c =
-    let u_fits : FitsSigned w32 c.moved-u.result = search rules in
+pub returns : goal.returns
+returns c =
+    let u_fits : FitsSigned w32 c.moved.result = search rules in
     let from_fits : FitsSigned w32 c.args.self.u = search rules in
     let back_fits : FitsSigned w32 c.args.self.back = search rules in
     record {
       same = record { more = refl; full = refl; back = in_bits _ back_fits; forwards = refl };
-      u = in_bits _ u_fits ∙ c.moved-u.ensures ∙ ap (λ n. ahead c.args.self.forwards n 1) (in_bits c.args.self.u from_fits);
-      kept = λ h. (omega (arith, ints, c.requires), refl);
-      carried = λ h. absurd (omega (arith, c.if-sum-self.true, h));
-    }
-
-pub returns-else-sum-self : goal.returns-else-sum-self
-returns-else-sum-self c =
-    let u_fits : FitsSigned w32 c.moved-u.result = search rules in
-    let from_fits : FitsSigned w32 c.args.self.u = search rules in
-    let back_fits : FitsSigned w32 c.args.self.back = search rules in
-    record {
-      same = record { more = refl; full = refl; back = in_bits _ back_fits; forwards = refl };
-      u = in_bits _ u_fits ∙ c.moved-u.ensures ∙ ap (λ n. ahead c.args.self.forwards n 1) (in_bits c.args.self.u from_fits);
-      kept = λ h. absurd (omega (arith, c.if-sum-self.false, h));
-      carried = λ h. (omega (arith, ints, c.requires), omega arith);
+      u = in_bits _ u_fits ∙ c.moved.ensures ∙ ap (λ n. ahead c.args.self.forwards n 1) (in_bits c.args.self.u from_fits);
+      kept = λ h. (let r = c.raised.ensures.below h in omega (arith, ints, c.requires, r), c.lowered.ensures.below h);
+      carried = λ h. (let r = c.raised.ensures.over h in omega (arith, ints, c.requires, r), c.lowered.ensures.over h);
     }
