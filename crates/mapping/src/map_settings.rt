@@ -126,9 +126,7 @@ impl PageAxis {
         PageAxis {
             window_origin: origin,
             window_extent: extent,
-            viewport_origin: self.viewport_origin,
-            viewport_extent: self.viewport_extent,
-            corner: self.corner,
+            ..self
         }
     }
 
@@ -137,11 +135,9 @@ impl PageAxis {
         ensures { axis_numbers result ≡ with_viewport origin extent (axis_numbers self) }
     {
         PageAxis {
-            window_origin: self.window_origin,
-            window_extent: self.window_extent,
             viewport_origin: origin,
             viewport_extent: extent,
-            corner: self.corner,
+            ..self
         }
     }
 
@@ -150,11 +146,9 @@ impl PageAxis {
         ensures { axis_numbers result ≡ with_unit_extents (axis_numbers self) }
     {
         PageAxis {
-            window_origin: self.window_origin,
             window_extent: 1,
-            viewport_origin: self.viewport_origin,
             viewport_extent: 1,
-            corner: self.corner,
+            ..self
         }
     }
 }

@@ -61,14 +61,23 @@ impl PageAxis {
         ensures test { is_some result ≡ is_nib_side (nib_side width (axis_numbers self.now) surface_side frame_side.number) }
     {
         let (viewport, window) = (self.viewport_length(), self.window_length());
+        let fine_side = self.in_parts(surface_side);
         if viewport == window {
-            return unscaled_side(times(width, surface_side), frame_side);
+            return unscaled_side(times(width, fine_side), frame_side);
         }
         allowed_side(scaled(
             times(width, viewport),
-            surface_side,
+            fine_side,
             times(window, frame_side.number),
         ))
+    }
+
+    /// A surface's width or height, times the parts of a unit.
+    fn in_parts(&self, surface_side: u32) -> u32
+        requires { surface_side ≤ surface_side_limit }
+        ensures { result ≡ self.now.parts * surface_side }
+    {
+        self.parts * surface_side
     }
 
     /// The length of the viewport's extent, in either direction.
