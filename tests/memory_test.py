@@ -28,7 +28,7 @@ BAND = 3 * 64 * 1088
 LITTLE = MIB
 
 # How many bytes a line of a drawing takes in all lists of a buffer of rows, and a piece of a path in its own.
-LINE, PIECE = 392, 96
+LINE, PIECE = 376, 96
 
 # From so many lines on there is room for a table beside these lists: 256 columns of 8,192 flags, and a column of changes.
 TABLED, TABLE = 4096, 2 * MIB + MIB // 16
@@ -187,7 +187,7 @@ class CertifiedMemory(unittest.TestCase):
 
     @for_each_program
     def test_what_needs_little_takes_little(self, program):
-        # Room for any drawing would be 392 MiB, and for any path 6 MiB.
+        # Room for any drawing would be 376 MiB, and for any path 6 MiB.
         for form in FORMS:
             for script in DRAWINGS:
                 self.check(program, form, script)

@@ -64,9 +64,25 @@ impl PageAxis {
         }
     }
 
-    /// The plane coordinate of a page coordinate. `None` if it would leave the plane.
+    /// The plane coordinate of a page coordinate. `None` if it would leave the plane. Where nothing is scaled, this is
+    /// short enough to be inlined.
+    #[inline]
     fn plane(&self, coordinate: i64) -> Option<i32>
-        ensures value { let there = axis_coordinate self.now coordinate in SomeIff result (IsPlaneCoordinate there) there }
+        ensures value { let v = axis_coordinate self.now coordinate in SomeIff result (IsPlaneCoordinate v) v }
+        ensures test { is_some result ≡ is_within plane_limit (axis_coordinate self.now coordinate) }
+    {
+        if self.viewport_extent == self.window_extent {
+            if let Ok(near) = i32::try_from(coordinate) {
+                return on_plane(distance(near, self.window_origin), self.shift());
+            }
+        }
+        self.scaled_plane(coordinate)
+    }
+
+    /// The same for any extents.
+    #[inline(never)]
+    fn scaled_plane(&self, coordinate: i64) -> Option<i32>
+        ensures value { let v = axis_coordinate self.now coordinate in SomeIff result (IsPlaneCoordinate v) v }
         ensures test { is_some result ≡ is_within plane_limit (axis_coordinate self.now coordinate) }
     {
         let Ok(near) = i32::try_from(coordinate) else {
@@ -81,7 +97,7 @@ impl PageAxis {
     /// The same for a coordinate that may have more than 32 bits, such as the far corner of a blit, or whose product may
     /// have more than 64.
     fn wide_plane(&self, coordinate: i64) -> Option<i32>
-        ensures value { let there = axis_coordinate self.now coordinate in SomeIff result (IsPlaneCoordinate there) there }
+        ensures value { let v = axis_coordinate self.now coordinate in SomeIff result (IsPlaneCoordinate v) v }
         ensures test { is_some result ≡ is_within plane_limit (axis_coordinate self.now coordinate) }
     {
         wide_on_plane(self.wide_scaled(coordinate), self.shift())

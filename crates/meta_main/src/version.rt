@@ -2,4 +2,4 @@
 
 /// The line that `--version` writes: the version, and the checksum of all sources but this one.
 pub(crate) const VERSION: &str =
-    "metaplay 1.0.0 (sources cab8ea9cf2ce347fb0dfebf9b8ce8d9f46be5bda4bf3aeece65392933c0fa0a4)\n";
+    "metaplay 1.0.0 (sources 5a21f28f3de3c93fc09af73b1d397b85a0fa4c199c81b91d1a937b326d572a5d)\n";

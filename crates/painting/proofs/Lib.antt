@@ -29,6 +29,7 @@ pub mod MoveLemmas
 pub mod PieceLemmas
 pub mod FigureLemmas
 pub mod PaintedFigureLemmas
+pub mod TakenLineLemmas
 pub mod WorkedPaths
 pub mod WorkedFigures
 pub mod WideSpanLemmas

@@ -1,5 +1,5 @@
 -- When a drawing may be painted, and how one layer of it changes a canvas.
-use Rattle.std.specs.Prelude.{◌≡◌, ◌≤◌, List}
+use Rattle.std.specs.Prelude.{◌≡◌, ◌≤◌, Bool, true, false, List}
 use Rattle.mapping.specs.Surface.{Surface}
 use Rattle.canvas.specs.CanvasState.{CanvasState}
 use Rattle.dc_stack.specs.Drawing.{mark_edges, tools_of}
@@ -8,7 +8,7 @@ use Rattle.dc_stack.specs.MachineState.{HasNib, MachineState, drawing_with}
 use Rattle.dc_stack.specs.declared.draw.Draw.{Draw}
 use Rattle.dc_stack.specs.declared.draw.Mark.{Mark}
 use Rattle.dc_stack.specs.declared.draw.Mark.TheVariants.{Blit, Dot, Figures, Line, Rectangle}
-use Rattle.dc_stack.specs.declared.draw.Painting.TheVariants.{StrokeAndFill}
+use Rattle.dc_stack.specs.declared.draw.Painting.TheVariants.{Fill, Stroke, StrokeAndFill}
 use Rattle.preflight_cert.specs.Layer.{Layer, fills_of, layers_of, strokes_of}
 use Rattle.span_fill.specs.declared.line.Line.{Line as TheLine}
 use Rattle.painting.specs.Counts.{CountsLayer}
@@ -31,18 +31,23 @@ pub record DrawsLayer (layers : List Layer) (s : Surface) (old new : CanvasState
   pub rows : SameRows old new
   pub few : CountsLayer old new
 
--- the lines are those of a mark that is filled and stroked
-abbrev pub are_filled_and_stroked : Mark → MachineState → List TheLine → Type 0
-are_filled_and_stroked (Dot at colour) machine lines = ⊥
-are_filled_and_stroked (Line from to) machine lines = ⊥
-are_filled_and_stroked (Figures painting points) machine lines =
-    (painting ≡ StrokeAndFill) × (lines ≡ landed_lines machine.surface Closed (figures_drawn machine.painted points))
-are_filled_and_stroked (Rectangle first second edges) machine lines = ⊥
-are_filled_and_stroked (Blit blit) machine lines = ⊥
+-- the lines are those of a mark's figures, all of them closed
+abbrev pub HasClosedLines : Mark → MachineState → List TheLine → Type 0
+HasClosedLines (Dot at colour) machine lines = ⊥
+HasClosedLines (Line from to) machine lines = ⊥
+HasClosedLines (Figures painting points) machine lines = lines ≡ landed_lines machine.surface Closed (figures_drawn machine.painted points)
+HasClosedLines (Rectangle first second edges) machine lines = ⊥
+HasClosedLines (Blit blit) machine lines = ⊥
 
--- the lines are those of a drawing that is filled and stroked
-abbrev pub HasStrokedLines : Draw → MachineState → List TheLine → Type 0
-HasStrokedLines drawn machine lines = are_filled_and_stroked drawn.mark machine lines
+-- a mark strokes figures that are all closed: those that it fills
+abbrev pub strokes_closed_figures : Mark → Bool
+strokes_closed_figures (Dot at colour) = false
+strokes_closed_figures (Line from to) = false
+strokes_closed_figures (Figures Fill points) = false
+strokes_closed_figures (Figures Stroke points) = false
+strokes_closed_figures (Figures StrokeAndFill points) = true
+strokes_closed_figures (Rectangle first second edges) = false
+strokes_closed_figures (Blit blit) = false
 
 -- a drawing was filled with the machine's current objects and modes
 abbrev pub Fills : Draw → MachineState → CanvasState → CanvasState → Type 0

@@ -1,6 +1,6 @@
 //! Draws the result of a step on a canvas: first its fill, then its stroke.
 
-ghost use Rattle.std.specs.Prelude.{◌≡◌, ◌≤◌, IfSome, IsTrue};
+ghost use Rattle.std.specs.Prelude.{◌≡◌, ◌≤◌, IfSome, IsTrue, true};
 ghost use Rattle.std.specs.Option.{option_map};
 ghost use Rattle.dc_stack.specs.Draws.{IsPlacedDraw};
 ghost use Rattle.dc_stack.specs.Drawing.{drawing_edges, tools_of};
@@ -8,7 +8,7 @@ ghost use Rattle.dc_stack.specs.MachineState.{HasNib, drawing_with};
 ghost use Rattle.span_fill.specs.WideStrokes.{one_pixel};
 ghost use Rattle.painting.specs.Counts.{CountsDrawing, HasCapacityForDrawing, HasCapacityForLayer};
 ghost use Rattle.painting.specs.Drawn.{DrawsDrawing, HoldsRows, SameRows};
-ghost use Rattle.painting.specs.Draws.{Draws, Fills, HasStrokedLines, MayDraw, Strokes};
+ghost use Rattle.painting.specs.Draws.{Draws, Fills, HasClosedLines, MayDraw, Strokes, strokes_closed_figures};
 ghost use Rattle.painting.specs.PaintsOfLayers.{IsPenOf};
 
 use crate::blits::blit;
@@ -63,8 +63,8 @@ pub fn draw<'a, T: Table<'a>>(
     paint(drawn, machine, scratch, canvas);
 }
 
-/// Paints one drawing. A dot writes one pixel in its own colour and a blit paints a box. Everything else is filled,
-/// then stroked.
+/// Paints one drawing. A dot writes one pixel in its own colour, a blit paints a box, and a line is only stroked.
+/// Everything else is filled, then stroked.
 fn paint<'a, T: Table<'a>>(
     drawn: Draw<'a>,
     machine: &Machine<'a, T>,
@@ -85,7 +85,8 @@ fn paint<'a, T: Table<'a>>(
     match drawn.mark {
         Mark::Dot { at, colour } => put(place.at(at), colour, &dc.clip, canvas),
         Mark::Blit(asked) => blit(&asked, place, dc, &mut scratch.row_ops, canvas),
-        Mark::Line { .. } | Mark::Figures { .. } | Mark::Rectangle { .. } => {
+        Mark::Line { .. } => stroke(drawn, false, machine, scratch, canvas),
+        Mark::Figures { .. } | Mark::Rectangle { .. } => {
             let are_taken = fill(drawn, machine, scratch, canvas);
             stroke(drawn, are_taken, machine, scratch, canvas);
         }
@@ -93,7 +94,7 @@ fn paint<'a, T: Table<'a>>(
 }
 
 /// Fills the inside of a drawing, if it has one and the brush isn't null. Returns whether the row buffer has taken the
-/// lines of the drawing's stroke.
+/// lines around it.
 fn fill<'a, T: Table<'a>>(
     drawn: Draw<'a>,
     machine: &Machine<'a, T>,
@@ -103,7 +104,7 @@ fn fill<'a, T: Table<'a>>(
     requires may { MayDraw drawn machine.now scratch.old canvas.old }
     requires countable { HasCapacityForLayer canvas.old }
     ensures drawn { Fills drawn.entry machine.now canvas.old canvas.new }
-    ensures taken { IsTrue result → HasStrokedLines drawn.entry machine.now scratch.new.rows.lines }
+    ensures taken { IsTrue result → HasClosedLines drawn.entry.mark machine.now scratch.new.rows.lines }
     ensures capacity { scratch.new.rows.capacity ≡ scratch.old.rows.capacity }
 {
     writing_law();
@@ -122,14 +123,13 @@ fn fill<'a, T: Table<'a>>(
                 return false;
             }
             let outline = FigureOutline::new(points, Ends::Closed, machine);
-            let is_taken = fill_inside(
+            fill_inside(
                 canvas,
                 scratch,
                 outline,
                 landed_box(place, drawn.bounds, Nib::ONE),
                 &paint,
-            );
-            is_taken && matches!(painting, Painting::StrokeAndFill)
+            )
         }
         Mark::Rectangle {
             first,
@@ -143,8 +143,8 @@ fn fill<'a, T: Table<'a>>(
     }
 }
 
-/// Strokes the outline of a drawing, if it has one and the pen isn't null. The row buffer may have taken its lines
-/// before.
+/// Strokes the outline of a drawing, if it has one and the pen isn't null. The row buffer may have taken the lines around
+/// its inside.
 fn stroke<'a, T: Table<'a>>(
     drawn: Draw<'a>,
     are_taken: bool,
@@ -154,7 +154,7 @@ fn stroke<'a, T: Table<'a>>(
 )
     requires may { MayDraw drawn machine.now scratch.old canvas.old }
     requires countable { HasCapacityForLayer canvas.old }
-    requires taken { IsTrue are_taken → HasStrokedLines drawn machine.now scratch.old.rows.lines }
+    requires taken { IsTrue are_taken → HasClosedLines drawn.mark machine.now scratch.old.rows.lines }
     ensures drawn { Strokes drawn.entry machine.now canvas.old canvas.new }
     ensures capacity { scratch.new.rows.capacity ≡ scratch.old.rows.capacity }
 {
@@ -163,14 +163,24 @@ fn stroke<'a, T: Table<'a>>(
         return;
     };
     let stroke = Stroke::with(colour, drawn.nib, machine);
-    if are_taken && drawn.nib == Nib::ONE {
+    if are_taken && strokes_closed_figures(&drawn.mark) && drawn.nib == Nib::ONE {
         stroke_taken(drawn, &stroke, machine, scratch, canvas);
         return;
     }
     stroke_outline(drawn, &stroke, machine, scratch, canvas);
 }
 
-/// Strokes the outline of a drawing by a nib of one pixel. The row buffer has taken its lines.
+/// Whether a mark strokes figures that are all closed, as for a fill.
+fn strokes_closed_figures(mark: &Mark<'_>) -> bool
+    ensures { result ≡ strokes_closed_figures mark.now }
+{
+    match mark {
+        Mark::Figures { painting, .. } => matches!(painting, Painting::StrokeAndFill),
+        Mark::Dot { .. } | Mark::Line { .. } | Mark::Rectangle { .. } | Mark::Blit(_) => false,
+    }
+}
+
+/// Strokes closed figures by a nib of one pixel. The row buffer has taken their lines.
 fn stroke_taken<'a, T: Table<'a>>(
     drawn: Draw<'a>,
     stroke: &Stroke<'_>,
@@ -183,7 +193,8 @@ fn stroke_taken<'a, T: Table<'a>>(
     requires pen { IsPenOf (tools_of machine.now.state.dc) machine.now.surface stroke.now }
     requires nib { stroke.now.nib ≡ drawn.nib }
     requires thin { drawn.nib ≡ one_pixel }
-    requires taken { HasStrokedLines drawn machine.now scratch.old.rows.lines }
+    requires closed { strokes_closed_figures drawn.mark ≡ true }
+    requires taken { HasClosedLines drawn.mark machine.now scratch.old.rows.lines }
     ensures drawn { Strokes drawn.entry machine.now canvas.old canvas.new }
     ensures capacity { scratch.new.rows.capacity ≡ scratch.old.rows.capacity }
 {

@@ -115,18 +115,17 @@ pub(crate) fn stroke_kept(
     ensures few { CountsLayer canvas.old canvas.new }
     ensures capacity { scratch.new.rows.capacity ≡ scratch.old.rows.capacity }
 {
-    let kept = LineList {
-        rest: scratch.rows.lines(),
-    };
+    let DrawingScratch { rows, visited, .. } = &mut *scratch;
+    let kept = LineList { rest: rows.lines() };
     if visited_mask_pays(kept, drawn, stroke.clip) {
-        if let Some(visited) = &mut scratch.visited {
+        if let Some(visited) = visited {
             if begin_visited_mask(visited, stroke.clip, drawn) {
                 stroke_by_visited_mask(canvas, visited, kept, stroke);
                 return;
             }
         }
     }
-    scratch.rows.begin_kept_stroke(stroke.nib, drawn.rows.from);
+    rows.begin_kept_stroke(stroke.nib, drawn.rows.from);
     paint_begun(canvas, scratch, drawn, stroke);
 }
 

@@ -1,5 +1,4 @@
 use Rattle.std.proofs.Common.{◌∙◌, ap, refl, rules, arith, sym, List}
-use Rattle.std.proofs.lemmas.Bool.{and_parts}
 use Rattle.mapping.specs.Surface.{Surface}
 use Rattle.mapping.specs.declared.geometry.Rect.{Rect}
 use Rattle.mapping.specs.PixelBoxes.{in_box}
@@ -31,8 +30,8 @@ new-outline-requires g c =
     let few = few_to_count _ (rw c.in-Figures.is at c.requires.may.placed.few) in
     search (borrowed, land, few, rules)
 
-pub fill_inside-is_taken-requires : goal.fill_inside-is_taken-requires
-fill_inside-is_taken-requires g c =
+pub fill_inside-requires : goal.fill_inside-requires
+fill_inside-requires g c =
     let s = c.args.machine.now.surface in
     let figures = figures_drawn c.args.machine.now.painted c.in-Figures.points in
     let rule = fill_rule_of c.with-paint.result.modes.fill_mode in
@@ -69,16 +68,13 @@ returns-in_default-painting-clause-drawn g c =
     let figures = figures_drawn c.args.machine.now.painted c.in-Figures.points in
     let shape = inside_figures tools.modes.fill_mode (all_closed figures) in
     let lines = c.new-outline.ensures ∙ closed_lines_along s figures in
-    let drawn = painted_layer c.writing_law.ensures s c.args.canvas.now c.fill_inside-is_taken.new.canvas c.whole_law.ensures.whole c.requires.may.held (brushed_now tools.brush tools) tools (fill_style_paint c.with-paint.result) asked _ shape
-    (λ x y. rw (c.with-paint.ensures.modes, lines) refl) c.fill_inside-is_taken.ensures.pixels c.fill_inside-is_taken.ensures.few in
+    let drawn = painted_layer c.writing_law.ensures s c.args.canvas.now c.fill_inside.new.canvas c.whole_law.ensures.whole c.requires.may.held (brushed_now tools.brush tools) tools (fill_style_paint c.with-paint.result) asked _ shape
+    (λ x y. rw (c.with-paint.ensures.modes, lines) refl) c.fill_inside.ensures.pixels c.fill_inside.ensures.few in
     rw (c.in-Figures.is, fills_figures c.in-Figures.painting figures tools c.in_default-painting.not-Stroke, brush_fills c.dc.result.now.selected.brush shape tools c.in_default.not-Null brush) drawn
 
--- the lines of the fill are those of the stroke
+-- the row buffer has taken the lines of the closed figures
 pub returns-in_default-painting-clause-taken : goal.returns-in_default-painting-clause-taken
-returns-in_default-painting-clause-taken g c = λ taken.
-    let both = and_parts c.fill_inside-is_taken.result _ taken in
-    let lines = c.fill_inside-is_taken.ensures.taken both.0 ∙ c.new-outline.ensures in
-    rw c.in-Figures.is (search (both, lines, rules))
+returns-in_default-painting-clause-taken g c = λ taken. rw c.in-Figures.is (c.fill_inside.ensures.taken taken ∙ c.new-outline.ensures)
 
 pub returns-in-Rectangle-clause-drawn : goal.returns-in-Rectangle-clause-drawn
 returns-in-Rectangle-clause-drawn g c =

@@ -44,25 +44,40 @@ returns-in-Blit-clause-drawn g c =
     let drawn = blit_drawn c.writing_law.ensures s c.args.canvas.now c.blit.new.canvas c.whole_law.ensures.whole c.requires.may.held dc (tools_of state) c.in-Blit.asked brush modes clip (rw c.place-place.ensures at c.blit.ensures.pixels) in
     rw c.in-Blit.is drawn
 
+-- a line has no inside
 pub returns-in-Line : goal.returns-in-Line
 returns-in-Line g c =
     let machine = c.args.machine.now in
     let mark = mark_of machine.painted c.args.drawn in
     let tools = tools_of machine.state.dc in
-    let alone : plain_layers_of mark tools ≡ [] = elim c.in-Line.is as (λ w. plain_layers_of mark tools ≡ []) [
-      | inl line ↦ rw line.2 refl
-      | inr other ↦ elim other as (λ w. plain_layers_of mark tools ≡ []) [
-        | inl figures ↦ rw figures.2 refl
-        | inr rectangle ↦ rw rectangle.3 refl
-      ]
-    ] in
-    let filled = c.fill.ensures.drawn in
+    let empty : fills_of mark tools ≡ [] = rw c.in-Line.is refl in
+    let alone : plain_layers_of mark tools ≡ [] = rw c.in-Line.is refl in
     let stroked = c.stroke.ensures.drawn in
+    let few = stroked.few in
+    let drawn = subst (λ (plain : List Layer). DrawsLayers (plain ++ strokes_of mark tools) machine.surface c.args.canvas.now c.stroke.new.canvas) (sym alone) stroked.drawn in
+    record {
+      drawn = subst (λ (fills : List Layer). DrawsLayers (fills ++ (plain_layers_of mark tools ++ strokes_of mark tools)) machine.surface c.args.canvas.now c.stroke.new.canvas) (sym empty) drawn;
+      rows = stroked.rows;
+      few = omega (arith, few);
+      capacity = c.stroke.ensures.capacity;
+    }
+
+pub returns-in-Figures : goal.returns-in-Figures
+returns-in-Figures g c =
+    let machine = c.args.machine.now in
+    let mark = mark_of machine.painted c.args.drawn in
+    let tools = tools_of machine.state.dc in
+    let alone : plain_layers_of mark tools ≡ [] = elim c.in-Figures.is as (λ w. plain_layers_of mark tools ≡ []) [
+      | inl figures ↦ rw figures.2 refl
+      | inr rectangle ↦ rw rectangle.3 refl
+    ] in
+    let filled = c.fill-are_taken.ensures.drawn in
+    let stroked = c.stroke-in-Figures.ensures.drawn in
     let fill_few = filled.few in
     let stroke_few = stroked.few in
     record {
-      drawn = subst (λ (plain : List Layer). DrawsLayers (fills_of mark tools ++ (plain ++ strokes_of mark tools)) machine.surface c.args.canvas.now c.stroke.new.canvas) (sym alone)
-          (drawn_in_turn (fills_of mark tools) (strokes_of mark tools) machine.surface c.args.canvas.now c.fill.new.canvas c.stroke.new.canvas filled.rows filled.drawn stroked.drawn);
+      drawn = subst (λ (plain : List Layer). DrawsLayers (fills_of mark tools ++ (plain ++ strokes_of mark tools)) machine.surface c.args.canvas.now c.stroke-in-Figures.new.canvas) (sym alone)
+          (drawn_in_turn (fills_of mark tools) (strokes_of mark tools) machine.surface c.args.canvas.now c.fill-are_taken.new.canvas c.stroke-in-Figures.new.canvas filled.rows filled.drawn stroked.drawn);
       rows = record {
         width = stroked.rows.width ∙ filled.rows.width;
         first = stroked.rows.first ∙ filled.rows.first;
@@ -70,5 +85,5 @@ returns-in-Line g c =
         most = stroked.rows.most ∙ filled.rows.most;
       };
       few = omega (arith, fill_few, stroke_few);
-      capacity = c.stroke.ensures.capacity ∙ c.fill.ensures.capacity;
+      capacity = c.stroke-in-Figures.ensures.capacity ∙ c.fill-are_taken.ensures.capacity;
     }
