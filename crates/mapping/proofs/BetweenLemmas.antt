@@ -52,7 +52,7 @@ floored (negsuc n) ne = turns_order (λ a. floor_div a (negsuc n)) (λ a b h. qu
 -- a page map
 pub map_keeps_between : (n : AxisNumbers) → n.window_extent ≢ pos 0 → KeepsBetween (plane_coordinate n)
 map_keeps_between n ne from v to between =
-    let scaled_there = scaled (pos n.parts) _ _ _ (scaled n.viewport_extent _ _ _ (shifted n.window_origin from v to between)) in
+    let scaled_there = scaled n.viewport_extent _ _ _ (scaled (pos n.parts) _ _ _ (shifted n.window_origin from v to between)) in
     moved ((n.viewport_origin -ℤ n.corner) *ℤ pos n.parts) _ _ _ (floored n.window_extent ne _ _ _ scaled_there)
 
 -- a place

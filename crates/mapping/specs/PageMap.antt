@@ -22,9 +22,9 @@ axis_numbers a = record {
 abbrev pub axis_coordinate : PageAxis → ℤ → ℤ
 axis_coordinate a v = plane_coordinate (axis_numbers a) v
 
--- the distance of a page coordinate from the window's origin, scaled to the viewport and rounded down, in parts
+-- the distance of a page coordinate from the window's origin in parts, scaled to the viewport and rounded down
 abbrev pub scaled_distance : PageAxis → ℤ → ℤ
-scaled_distance a v = floor_div ((v -ℤ a.window_origin) *ℤ a.viewport_extent *ℤ pos a.parts) a.window_extent
+scaled_distance a v = floor_div ((v -ℤ a.window_origin) *ℤ pos a.parts *ℤ a.viewport_extent) a.window_extent
 
 -- the numbers of a map, with its mode
 abbrev pub map_numbers : PageMap → MapNumbers

@@ -21,12 +21,12 @@ pub record MapNumbers : Type 0 where
   pub x : AxisNumbers
   pub y : AxisNumbers
 
--- The plane coordinate of a page coordinate: its distance from the window's origin is scaled from the window's extent
--- to the viewport's, counted in parts and rounded down, and the viewport's origin is added, in parts too. The frame's
+-- The plane coordinate of a page coordinate: its distance from the window's origin, in parts, is scaled from the
+-- window's extent to the viewport's and rounded down, and the viewport's origin is added, in parts too. The frame's
 -- corner is the origin of the plane.
 abbrev pub plane_coordinate : AxisNumbers → ℤ → ℤ
 plane_coordinate n v =
-    floor_div ((v -ℤ n.window_origin) *ℤ n.viewport_extent *ℤ pos n.parts) n.window_extent
+    floor_div ((v -ℤ n.window_origin) *ℤ pos n.parts *ℤ n.viewport_extent) n.window_extent
     +ℤ (n.viewport_origin -ℤ n.corner) *ℤ pos n.parts
 
 -- the plane point of a page point, computed separately on each axis

@@ -124,9 +124,12 @@ impl PageAxis {
         ensures { axis_numbers result ≡ with_window origin extent (axis_numbers self) }
     {
         PageAxis {
+            parts: self.parts,
             window_origin: origin,
             window_extent: extent,
-            ..self
+            viewport_origin: self.viewport_origin,
+            viewport_extent: self.viewport_extent,
+            corner: self.corner,
         }
     }
 
@@ -135,9 +138,12 @@ impl PageAxis {
         ensures { axis_numbers result ≡ with_viewport origin extent (axis_numbers self) }
     {
         PageAxis {
+            parts: self.parts,
+            window_origin: self.window_origin,
+            window_extent: self.window_extent,
             viewport_origin: origin,
             viewport_extent: extent,
-            ..self
+            corner: self.corner,
         }
     }
 
@@ -146,9 +152,12 @@ impl PageAxis {
         ensures { axis_numbers result ≡ with_unit_extents (axis_numbers self) }
     {
         PageAxis {
+            parts: self.parts,
+            window_origin: self.window_origin,
             window_extent: 1,
+            viewport_origin: self.viewport_origin,
             viewport_extent: 1,
-            ..self
+            corner: self.corner,
         }
     }
 }

@@ -32,7 +32,7 @@ pub struct PageAxis {
 }
 
 impl PageAxis {
-    ghost use Rattle.mapping.specs.PageMap.{axis_coordinate, axis_numbers, placeable_axis, scaled_distance, unscaled_axis};
+    ghost use Rattle.mapping.specs.PageMap.{axis_coordinate, axis_in_parts, axis_numbers, placeable_axis, scaled_distance, unscaled_axis};
 
     /// An initial axis of a placeable file: the box's width or height is the window, and the frame's is the viewport.
     fn placeable(origin: i32, extent: i32) -> PageAxis
@@ -64,6 +64,22 @@ impl PageAxis {
         }
     }
 
+    /// The same axis with so many parts a unit.
+    fn in_parts(self, parts: u32) -> PageAxis
+        requires some { 1 ≤ parts }
+        requires few { parts ≤ 4096 }
+        ensures { axis_numbers result ≡ axis_in_parts parts (axis_numbers self) }
+    {
+        PageAxis {
+            parts,
+            window_origin: self.window_origin,
+            window_extent: self.window_extent,
+            viewport_origin: self.viewport_origin,
+            viewport_extent: self.viewport_extent,
+            corner: self.corner,
+        }
+    }
+
     /// The plane coordinate of a page coordinate. `None` if it would leave the plane. Where nothing is scaled, this is
     /// short enough to be inlined.
     #[inline]
@@ -73,7 +89,7 @@ impl PageAxis {
     {
         if self.viewport_extent == self.window_extent {
             if let Ok(near) = i32::try_from(coordinate) {
-                return on_plane(distance(near, self.window_origin), self.shift());
+                return on_plane(self.distance(near), self.shift());
             }
         }
         self.scaled_plane(coordinate)
@@ -131,14 +147,11 @@ impl PageAxis {
     fn scaled(&self, coordinate: i32) -> Option<i64>
         ensures { IfSome result (λ there. there ≡ scaled_distance self.now coordinate) }
     {
-        let distance = distance(coordinate, self.window_origin);
+        let distance = self.distance(coordinate);
         if self.viewport_extent == self.window_extent {
-            return Some(in_parts(distance, self.parts));
+            return Some(distance);
         }
-        let product = product(distance, i64::from(self.viewport_extent)).checked_mul(i64::from(self.parts))?;
-        if product == i64::MIN {
-            return None;
-        }
+        let product = product(distance, self.viewport_extent)?;
         Some(floor_quotient(product, i64::from(self.window_extent)))
     }
 
@@ -146,9 +159,23 @@ impl PageAxis {
     fn wide_scaled(&self, coordinate: i64) -> i128
         ensures { result ≡ scaled_distance self.now coordinate }
     {
-        let distance = wide_distance(coordinate, self.window_origin);
+        let distance = wide_in_parts(
+            wide_distance(coordinate, self.window_origin),
+            i128::from(self.parts),
+        );
         let product = wide_product(distance, i128::from(self.viewport_extent));
-        wide_floor_quotient(wide_in_parts(product, self.parts), i128::from(self.window_extent))
+        wide_floor_quotient(product, i128::from(self.window_extent))
+    }
+
+    /// The distance of a coordinate from the window's origin, in parts.
+    fn distance(&self, coordinate: i32) -> i64
+        ensures value { result ≡ (coordinate -ℤ self.now.window_origin) *ℤ pos self.now.parts }
+        ensures bound { unsigned_abs result < 2 ^ 44 }
+    {
+        in_parts(
+            distance(coordinate, self.window_origin),
+            i64::from(self.parts),
+        )
     }
 
     /// The shift after scaling, in parts: the viewport's origin, relative to the frame's corner.
@@ -156,7 +183,10 @@ impl PageAxis {
         ensures value { result ≡ (self.now.viewport_origin -ℤ self.now.corner) *ℤ pos self.now.parts }
         ensures bound { unsigned_abs result < 2 ^ 44 }
     {
-        in_parts(distance(self.viewport_origin, self.corner), self.parts)
+        in_parts(
+            distance(self.viewport_origin, self.corner),
+            i64::from(self.parts),
+        )
     }
 }
 
@@ -169,33 +199,35 @@ fn distance(coordinate: i32, origin: i32) -> i64
 }
 
 /// A distance in parts.
-fn in_parts(distance: i64, parts: u32) -> i64
+fn in_parts(distance: i64, parts: i64) -> i64
     requires distance_fits { unsigned_abs distance < 2 ^ 32 }
-    requires parts { parts ≤ 4096 }
-    ensures value { result ≡ distance *ℤ pos parts }
+    requires parts_fit { unsigned_abs parts ≤ 2 ^ 12 }
+    ensures value { result ≡ distance *ℤ parts }
     ensures bound { unsigned_abs result < 2 ^ 44 }
 {
-    distance * i64::from(parts)
+    distance * parts
 }
 
-/// A product of more than 64 bits, in parts.
-fn wide_in_parts(product: i128, parts: u32) -> i128
-    requires product_fits { unsigned_abs product ≤ 2 ^ 96 }
-    requires parts { parts ≤ 4096 }
-    ensures value { result ≡ product *ℤ pos parts }
-    ensures bound { unsigned_abs result ≤ 2 ^ 108 }
+/// A distance times a viewport's extent. `None` if the product doesn't fit 64 bits, or couldn't be negated in them.
+fn product(distance: i64, extent: i32) -> Option<i64>
+    ensures value { IfSome result (λ product. product ≡ distance *ℤ extent) }
+    ensures bound { IfSome result (λ product. unsigned_abs product < 2 ^ 63) }
 {
-    product * i128::from(parts)
+    let product = distance.checked_mul(i64::from(extent))?;
+    if product == i64::MIN {
+        return None;
+    }
+    Some(product)
 }
 
-/// A distance on the page times a viewport's extent.
-fn product(distance: i64, extent: i64) -> i64
-    requires distance_fits { unsigned_abs distance < 2 ^ 32 }
-    requires extent_fits { unsigned_abs extent ≤ 2 ^ 31 }
-    ensures value { result ≡ distance *ℤ extent }
-    ensures bound { unsigned_abs result < 2 ^ 63 }
+/// A distance of more than 64 bits, in parts.
+fn wide_in_parts(distance: i128, parts: i128) -> i128
+    requires distance_fits { unsigned_abs distance ≤ 2 ^ 65 }
+    requires parts_fit { unsigned_abs parts ≤ 2 ^ 12 }
+    ensures value { result ≡ distance *ℤ parts }
+    ensures bound { unsigned_abs result ≤ 2 ^ 77 }
 {
-    distance * extent
+    distance * parts
 }
 
 /// The distance of a page coordinate of more than 32 bits from the window's origin.
@@ -208,10 +240,10 @@ fn wide_distance(coordinate: i64, origin: i32) -> i128
 
 /// Such a distance times a viewport's extent.
 fn wide_product(distance: i128, extent: i128) -> i128
-    requires distance_fits { unsigned_abs distance ≤ 2 ^ 65 }
+    requires distance_fits { unsigned_abs distance ≤ 2 ^ 77 }
     requires extent_fits { unsigned_abs extent ≤ 2 ^ 31 }
     ensures value { result ≡ distance *ℤ extent }
-    ensures bound { unsigned_abs result ≤ 2 ^ 96 }
+    ensures bound { unsigned_abs result ≤ 2 ^ 108 }
 {
     distance * extent
 }
@@ -310,8 +342,8 @@ impl PageMap {
     {
         PageMap {
             mode: self.mode,
-            x: PageAxis { parts, ..self.x },
-            y: PageAxis { parts, ..self.y },
+            x: self.x.in_parts(parts),
+            y: self.y.in_parts(parts),
         }
     }
 
