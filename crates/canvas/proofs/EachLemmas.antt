@@ -17,8 +17,8 @@ pub record GivesPiece (old new piece : ℕ → ℕ → Bool) : Type 0 where
   pub given : (x y : ℕ) → piece x y ≡ true → old x y ≡ true
   pub others : (x y : ℕ) → new x y ≡ (old x y && not (piece x y))
 
-pub gives_pixel : (old new : ℕ → ℕ → Bool) (before after : ℕ) (pixel : PixelAt) → GivesOne old new before after pixel → GivesPiece old new (is_at pixel.x pixel.y)
-gives_pixel old new before after pixel gives = record {
+pub gives_pixel : (places : ℕ → ℕ → ℕ) (old new : ℕ → ℕ → Bool) (before after : ℕ) (pixel : PixelAt) → GivesOne places old new before after pixel → GivesPiece old new (is_at pixel.x pixel.y)
+gives_pixel places old new before after pixel gives = record {
   given = λ x y at.
       let parts = and_parts (eqb x pixel.x) (eqb y pixel.y) at in
       let column = eqb-true x pixel.x parts.0 in

@@ -2,6 +2,7 @@
 use Rattle.std.specs.Prelude.{ℕ, ◌+◌, ◌-◌, ◌*◌, ◌<◌, ◌≤◌, List, replicate}
 use Rattle.mapping.specs.declared.geometry.Colour.{Colour}
 use Rattle.mapping.specs.Image.{Image}
+use Rattle.canvas.specs.Rows.{row_stride}
 
 -- the rows of a surface in a canvas, from `first` on, with their colours, the number of pixels written, and the number
 -- of rows that it was made for
@@ -31,6 +32,10 @@ pub record HasRow (canvas : CanvasState) (y : ℕ) : Type 0 where
 -- the index of pixel (x, y) in the list of colours
 abbrev pub colour_index : CanvasState → ℕ → ℕ → ℕ
 colour_index canvas x y = (y - canvas.first) * canvas.width + x
+
+-- the place of pixel (x, y) among the colours as they are stored
+abbrev pub place_in : CanvasState → ℕ → ℕ → ℕ
+place_in canvas x y = (y - canvas.first) * row_stride canvas.width + x
 
 -- a canvas of rows with these colours, before anything is written
 abbrev pub made_of : List Colour → ℕ → ℕ → ℕ → CanvasState

@@ -6,9 +6,10 @@ use Rattle.canvas.specs.declared.pixel_source.PixelAt.{PixelAt}
 use Rattle.canvas.specs.declared.pixel_source.PixelStep.{PixelStep}
 use Rattle.canvas.specs.declared.pixel_source.PixelStep.TheVariants.{End, Nothing, Pixel}
 
--- a remaining pixel was returned, and every other one still remains
-pub record GivesOne (old new : ℕ → ℕ → Bool) (before after : ℕ) (pixel : PixelAt) : Type 0 where
+-- a remaining pixel was returned with its place, and every other one still remains
+pub record GivesOne (places : ℕ → ℕ → ℕ) (old new : ℕ → ℕ → Bool) (before after : ℕ) (pixel : PixelAt) : Type 0 where
   pub given : old pixel.x pixel.y ≡ true
+  pub place : pixel.place ≡ places pixel.x pixel.y
   pub others : (x y : ℕ) → new x y ≡ (old x y && not (is_at pixel.x pixel.y x y))
   pub less : after < before
 
@@ -18,10 +19,10 @@ pub record GivesNone (old new : ℕ → ℕ → Bool) (before after : ℕ) : Typ
   pub less : after < before
 
 -- the step returns one of the pixels that remain, or nothing; or it ends, and only if none remains
-abbrev pub GivesNext : (ℕ → ℕ → Bool) → ℕ → PixelStep → (ℕ → ℕ → Bool) → ℕ → Type 0
-GivesNext old before (Pixel pixel) new after = GivesOne old new before after pixel
-GivesNext old before Nothing new after = GivesNone old new before after
-GivesNext old before End new after = (x y : ℕ) → old x y ≡ false
+abbrev pub GivesNext : (ℕ → ℕ → ℕ) → (ℕ → ℕ → Bool) → ℕ → PixelStep → (ℕ → ℕ → Bool) → ℕ → Type 0
+GivesNext places old before (Pixel pixel) new after = GivesOne places old new before after pixel
+GivesNext places old before Nothing new after = GivesNone old new before after
+GivesNext places old before End new after = (x y : ℕ) → old x y ≡ false
 
 -- the source has ended
 abbrev pub is_end : PixelStep → Bool

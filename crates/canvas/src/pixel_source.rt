@@ -2,7 +2,7 @@
 
 ghost use Rattle.std.specs.Prelude.{◌≡◌, ◌+◌, ◌*◌, ◌<◌, ◌^◌, ℕ, Bool, true};
 ghost use Rattle.mapping.specs.Mixes.{mixed_by};
-ghost use Rattle.canvas.specs.CanvasState.{HasPixel};
+ghost use Rattle.canvas.specs.CanvasState.{HasPixel, place_in};
 ghost use Rattle.canvas.specs.PixelSources.{GivesNext, KeepsEnd, counted, is_end};
 ghost use Rattle.canvas.specs.Writing.{Repaints, is_at};
 
@@ -10,11 +10,13 @@ use crate::pixel_change::PixelChange;
 use crate::surface::{Canvas, place};
 use mapping::{Colour, Mix};
 
-/// A pixel of a surface, by its column and its row.
+/// A pixel of a surface, by its column and its row, and by its place in a canvas.
 #[derive(Clone, Copy, Debug, PartialEq, Eq)]
 pub struct PixelAt {
     pub x: u32,
     pub y: u32,
+    /// `x`, plus the canvas's stride (`Canvas::stride`) for each of its rows above `y`.
+    pub place: usize,
 }
 
 /// The result of a source's step.
@@ -31,6 +33,9 @@ pub enum PixelStep {
 /// Pixels of a surface, one by one and none twice. A step may return nothing: a source that searches for its next pixel
 /// in a loop of its own would be slower.
 pub trait PixelSource {
+    /// The place of each pixel, by its column and its row.
+    ghost places: { Self → ℕ → ℕ → ℕ };
+
     /// Whether a pixel remains.
     ghost to_come: { Self → ℕ → ℕ → Bool };
 
@@ -42,7 +47,8 @@ pub trait PixelSource {
 
     /// Takes a step.
     fn step(&mut self) -> PixelStep
-        ensures pixel { GivesNext (to_come self.old) (measure self.old) result (to_come self.new) (measure self.new) }
+        ensures pixel { GivesNext (places self.old) (to_come self.old) (measure self.old) result (to_come self.new) (measure self.new) }
+        ensures places { (x y : ℕ) → places self.new x y ≡ places self.old x y }
         ensures end { KeepsEnd ends_as (is_end result) self.old self.new };
 }
 
@@ -50,6 +56,7 @@ impl Canvas {
     /// Writes the pixels of a source in one colour, and counts each once.
     pub fn put_each<P: PixelSource>(&mut self, pixels: &mut P, colour: Colour)
         requires held { (x y : ℕ) → P.to_come pixels.old x y ≡ true → HasPixel self.old x y }
+        requires places { (x y : ℕ) → P.places pixels.old x y ≡ place_in self.old x y }
         requires countable { self.old.writes + self.old.rows * self.old.width + 1 < 2 ^ 64 }
         ensures pixels { Repaints (P.to_come pixels.old) (λ x y old. colour) self.old self.new }
         ensures end { P.ends_as pixels.old pixels.new }
@@ -61,6 +68,7 @@ impl Canvas {
     /// colours, none is read.
     pub fn mix_each<P: PixelSource>(&mut self, pixels: &mut P, mix: Mix)
         requires held { (x y : ℕ) → P.to_come pixels.old x y ≡ true → HasPixel self.old x y }
+        requires places { (x y : ℕ) → P.places pixels.old x y ≡ place_in self.old x y }
         requires countable { self.old.writes + self.old.rows * self.old.width + 1 < 2 ^ 64 }
         ensures pixels { Repaints (P.to_come pixels.old) (λ x y old. mixed_by mix old) self.old self.new }
         ensures end { P.ends_as pixels.old pixels.new }
@@ -75,6 +83,7 @@ impl Canvas {
     /// Changes the pixels of a source, and counts each once.
     fn change_each<P: PixelSource, C: PixelChange>(&mut self, pixels: &mut P, change: C)
         requires held { (x y : ℕ) → P.to_come pixels.old x y ≡ true → HasPixel self.old x y }
+        requires places { (x y : ℕ) → P.places pixels.old x y ≡ place_in self.old x y }
         requires countable { self.old.writes + self.old.rows * self.old.width + 1 < 2 ^ 64 }
         ensures pixels { Repaints (P.to_come pixels.old) (λ x y old. C.made change old) self.old self.new }
         ensures end { P.ends_as pixels.old pixels.new }
@@ -85,7 +94,7 @@ impl Canvas {
         loop {
             match pixels.step() {
                 PixelStep::Pixel(pixel) => {
-                    self.change(pixel.x, pixel.y, change);
+                    self.change_at(pixel, change);
                     count += 1;
                 }
                 PixelStep::Nothing => {}
@@ -103,5 +112,15 @@ impl Canvas {
     {
         let place = place(self.stride, y - self.first, x);
         self.colours[place] = change.of(self.colours[place]);
+    }
+
+    /// The same for a pixel whose place is known.
+    fn change_at<C: PixelChange>(&mut self, pixel: PixelAt, change: C)
+        requires held { HasPixel self.old pixel.x pixel.y }
+        requires place { pixel.place ≡ place_in self.old pixel.x pixel.y }
+        ensures repaints { Repaints (is_at pixel.x pixel.y) (λ x y old. C.made change old) self.old (counted 1 self.new) }
+        ensures count { self.new.writes ≡ self.old.writes }
+    {
+        self.colours[pixel.place] = change.of(self.colours[pixel.place]);
     }
 }

@@ -156,6 +156,14 @@ impl Canvas {
         self.width
     }
 
+    /// The distance from the start of a row to the start of the next, in colours: at most 8,256.
+    pub fn stride(&self) -> usize
+        ensures stride { result ≡ row_stride self.now.width }
+        ensures few { result ≤ 8256 }
+    {
+        self.stride
+    }
+
     /// The number of the first row.
     pub fn first(&self) -> u32
         ensures { result ≡ self.now.first }

@@ -2,4 +2,4 @@
 
 /// The line that `--version` writes: the version, and the checksum of all sources but this one.
 pub(crate) const VERSION: &str =
-    "metaplay 1.0.0 (sources bff755b22db9f68eddff75408a6b449948884371b3da2fa99fcdf8f1fbc3384d)\n";
+    "metaplay 1.0.0 (sources 7072e48598f8885487f38aec3b467d5b2cb28e1447b672037411bbf55c106863)\n";

@@ -22,11 +22,12 @@ left_same true true k l e h = sym (h refl)
 left_same true false k l e h = sym (and-true l) ∙ e ∙ and-true k
 left_same false a k l e h = refl
 
-module _ (old now keeps later : ℕ → ℕ → Bool) (before after : ℕ) (pixel : PixelAt) (given : GivesOne old now before after pixel) (same : (x y : ℕ) → (later x y && not (is_at pixel.x pixel.y x y)) ≡ (keeps x y && not (is_at pixel.x pixel.y x y))) where
+module _ (places : ℕ → ℕ → ℕ) (old now keeps later : ℕ → ℕ → Bool) (before after : ℕ) (pixel : PixelAt) (given : GivesOne places old now before after pixel) (same : (x y : ℕ) → (later x y && not (is_at pixel.x pixel.y x y)) ≡ (keeps x y && not (is_at pixel.x pixel.y x y))) where
   -- a selected pixel is one of those
-  pub gives_kept : keeps pixel.x pixel.y ≡ true → GivesOne (filtered old keeps) (filtered now later) before after pixel
+  pub gives_kept : keeps pixel.x pixel.y ≡ true → GivesOne places (filtered old keeps) (filtered now later) before after pixel
   gives_kept kept = record {
     given = and_from (old pixel.x pixel.y) (keeps pixel.x pixel.y) given.given kept;
+    place = given.place;
     others = λ x y. rw (given.others x y) (left_over (old x y) (is_at pixel.x pixel.y x y) (keeps x y) (later x y) (same x y));
     less = given.less;
   }

@@ -1,16 +1,20 @@
 -- A line's steps yield its pixels one after another.
-use Rattle.std.proofs.Common.{◌≡◌, ℕ, suc, ◌-◌, ◌<◌, ◌≤◌, ℤ, pos, Bool, true, false, not, ◌&&◌, nat_le, IsTrue, ◌⊎◌, inl, inr, arith, refl, ap, sym, ◌∙◌}
+use Rattle.std.proofs.Common.{◌≡◌, ℕ, suc, ◌+◌, ◌-◌, ◌*◌, ◌<◌, ◌≤◌, ℤ, pos, ◌+ℤ◌, ◌-ℤ◌, ◌*ℤ◌, ◌≤ℤ◌, Bool, true, false, not, ◌&&◌, nat_le, nat_lt, IsTrue, ◌⊎◌, inl, inr, arith, refl, ap, sym, ◌∙◌}
 use Rattle.std.proofs.lemmas.Bool.{and_from, and_parts, le-leb, leb-true, lt-ltb, ltb-true, false_from_ne_true, not-true, not_from_false}
 use Rattle.mapping.specs.TestLaws.{same_test}
 use Rattle.mapping.specs.declared.geometry.Point.{Point}
 use Rattle.canvas.specs.PixelSources.{GivesOne}
 use Rattle.canvas.specs.Writing.{is_at}
 use Rattle.canvas.specs.declared.pixel_source.PixelAt.{PixelAt}
-use Rattle.span_fill.specs.Spans.{in_region}
+use Rattle.std.proofs.lemmas.Int.{ints}
+use Rattle.span_fill.specs.Numberings.{number_of}
+use Rattle.span_fill.specs.Spans.{in_region, in_span}
 use Rattle.span_fill.specs.Steps.{HasAllSteps, StepsState}
 use Rattle.span_fill.specs.Strokes.{OnePixelForEachStep, on_line, step_at}
 use Rattle.span_fill.specs.declared.line.Line.{Line}
-use Rattle.painting.specs.LinePixels.{is_to_step, is_visible}
+use Rattle.span_fill.specs.declared.pixel.NumberedPixel.{NumberedPixel}
+use Rattle.span_fill.specs.declared.span.Region.{Region}
+use Rattle.painting.specs.LinePixels.{is_to_step, is_visible, place_on}
 
 -- the number of a column or row, from a coordinate
 abbrev natural : ℤ → ℕ
@@ -110,9 +114,10 @@ module _ (law : OnePixelForEachStep) (old new : StepsState) (pixel : PixelAt) (o
       differs true h e = cc
       differs false h e = cc
 
-  pub gives_step : GivesOne (is_to_step old) (is_to_step new) (old.end - old.next) (new.end - new.next) pixel
-  gives_step = record {
+  pub gives_step : pixel.place ≡ place_on old pixel.x pixel.y → GivesOne (place_on old) (is_to_step old) (is_to_step new) (old.end - old.next) (new.end - new.next) pixel
+  gives_step place = record {
     given = given_to_step;
+    place = place;
     others = λ x y. same_test _ _ (later x y) (earlier x y);
     less = omega (arith, next, end, more);
   }
@@ -128,3 +133,18 @@ all_to_step steps all x y = same_test _ _
 -- the region of the steps contains each remaining pixel
 pub to_step_inside : (steps : StepsState) (x y : ℕ) → is_to_step steps x y ≡ true → in_region steps.region x y ≡ true
 to_step_inside steps x y h = (parts_of steps x y h).inside
+
+-- a region has no pixel above its first row
+row_low : (region : Region) (x y : ℕ) → IsTrue (in_region region x y) → region.rows.from ≤ y
+row_low region x y inside =
+    let both = and_parts (in_span region.columns x) (in_span region.rows y) inside in
+    leb-true _ _ (and_parts (nat_le region.rows.from y) (nat_lt y region.rows.to) both.1).0
+
+-- the number of a pixel in a row of the canvas is its place
+pub place_is : (steps : StepsState) (numbered : NumberedPixel) → steps.grid.first ≤ steps.region.rows.from → IsTrue (in_region steps.region numbered.pixel.x numbered.pixel.y) → numbered.number ≡ number_of steps.grid (pos numbered.pixel.x) (pos numbered.pixel.y)
+    → (pos 0 ≤ℤ numbered.number) × ((place : ℕ) → pos place ≡ numbered.number → place ≡ place_on steps numbered.pixel.x numbered.pixel.y)
+place_is steps numbered below inside number =
+    let low = row_low steps.region numbered.pixel.x numbered.pixel.y inside in
+    let rows : pos numbered.pixel.y -ℤ pos steps.grid.first ≡ pos (numbered.pixel.y - steps.grid.first) = omega (arith, ints, below, low) in
+    let there : numbered.number ≡ pos ((numbered.pixel.y - steps.grid.first) * steps.grid.stride + numbered.pixel.x) = number ∙ ap (λ (r : ℤ). r *ℤ pos steps.grid.stride +ℤ pos numbered.pixel.x) rows in
+    (omega (arith, ints, there), λ place same. omega (arith, ints, same, there))

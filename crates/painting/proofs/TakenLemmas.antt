@@ -20,7 +20,7 @@ kept_all false true false h = refl
 kept_all false false true h = sym (h refl)
 kept_all false false false h = refl
 
-module _ (old now taken later : ℕ → ℕ → Bool) (before after : ℕ) (pixel : PixelAt) (given : GivesOne old now before after pixel) (takes : (x y : ℕ) → later x y ≡ (taken x y || is_at pixel.x pixel.y x y)) where
+module _ (places : ℕ → ℕ → ℕ) (old now taken later : ℕ → ℕ → Bool) (before after : ℕ) (pixel : PixelAt) (given : GivesOne places old now before after pixel) (takes : (x y : ℕ) → later x y ≡ (taken x y || is_at pixel.x pixel.y x y)) where
   pub taken_outside : (x y : ℕ) → (not (later x y) && not (is_at pixel.x pixel.y x y)) ≡ (not (taken x y) && not (is_at pixel.x pixel.y x y))
   taken_outside x y = rw (takes x y) (beside (taken x y) (is_at pixel.x pixel.y x y))
 

@@ -1,5 +1,5 @@
 -- Which pixels of lines lie in a region, and which remain.
-use Rattle.std.specs.Prelude.{ℕ, pos, Bool, ◌&&◌, nat_le, nat_lt, List}
+use Rattle.std.specs.Prelude.{ℕ, ◌+◌, ◌-◌, ◌*◌, pos, Bool, ◌&&◌, nat_le, nat_lt, List}
 use Rattle.mapping.specs.Mixes.{mixed_by}
 use Rattle.mapping.specs.declared.mix.Mix.{Mix}
 use Rattle.canvas.specs.CanvasState.{CanvasState}
@@ -19,6 +19,10 @@ abbrev pub is_to_step : StepsState → ℕ → ℕ → Bool
 is_to_step steps x y =
     on_line steps.line (pos x) (pos y)
     && (in_region steps.region x y && (nat_le steps.next (step_at steps.line (pos x) (pos y)) && nat_lt (step_at steps.line (pos x) (pos y)) steps.end))
+
+-- the place of each pixel in a canvas, by the numbers that the steps have for it
+abbrev pub place_on : StepsState → ℕ → ℕ → ℕ
+place_on steps x y = (y - steps.grid.first) * steps.grid.stride + x
 
 -- the pixels of a region that lie on some lines were mixed, each once
 abbrev pub MixesLines : Region → List Line → Mix → CanvasState → CanvasState → Type 0

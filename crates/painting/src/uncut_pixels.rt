@@ -3,7 +3,7 @@
 ghost use Rattle.std.specs.Prelude.{◌-◌, ◌&&◌};
 ghost use Rattle.dc_stack.specs.Clip.{in_boxes};
 ghost use Rattle.dc_stack.specs.Values.{placed_value};
-ghost use Rattle.painting.specs.LinePixels.{is_to_step};
+ghost use Rattle.painting.specs.LinePixels.{is_to_step, place_on};
 
 use crate::line_pixels::LinePixels;
 use canvas::{PixelSource, PixelStep};
@@ -17,6 +17,8 @@ pub(crate) struct UncutPixels<'c> {
 }
 
 impl<'c> PixelSource for UncutPixels<'c> {
+    ghost places = { λ uncut. place_on uncut.pixels.steps };
+
     ghost to_come = { λ uncut x y. is_to_step uncut.pixels.steps x y && in_boxes (placed_value uncut.clip.now) x y };
 
     ghost measure = { λ uncut. uncut.pixels.steps.end - uncut.pixels.steps.next };

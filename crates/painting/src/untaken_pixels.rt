@@ -2,7 +2,7 @@
 
 ghost use Rattle.std.specs.Prelude.{◌≡◌, ◌-◌, ◌&&◌, ℕ, not, true};
 ghost use Rattle.span_fill.specs.Spans.{in_region};
-ghost use Rattle.painting.specs.LinePixels.{is_to_step};
+ghost use Rattle.painting.specs.LinePixels.{is_to_step, place_on};
 ghost use Rattle.painting.specs.VisitedMask.{is_taken};
 
 use crate::line_pixels::LinePixels;
@@ -23,6 +23,8 @@ pub(crate) struct UntakenPixels<'s> {
 
 impl<'s> PixelSource for UntakenPixels<'s> {
     ghost use Rattle.painting.specs.UntakenPixels.{TakesAll};
+
+    ghost places = { λ untaken. place_on untaken.pixels.steps };
 
     ghost to_come = { λ untaken x y. is_to_step untaken.pixels.steps x y && not (is_taken untaken.visited.now x y) };
 

@@ -7,7 +7,7 @@ ghost use Rattle.span_fill.specs.Spans.{in_region};
 ghost use Rattle.span_fill.specs.Steps.{HasAllSteps};
 ghost use Rattle.painting.specs.VisitedMask.{has_bit, is_taken, pixel_count, pixel_number, span_width, visited_mask_limit};
 
-use span_fill::{Line, LineSteps, OutOfMemory, Region, Span};
+use span_fill::{Grid, Line, LineSteps, OutOfMemory, Region, Span};
 use std::alloc::Global;
 use std::marker::Model;
 
@@ -73,14 +73,15 @@ impl VisitedMask {
         true
     }
 
-    /// The pixels of a line within the box, step by step.
-    pub(crate) fn steps(&self, line: Line) -> LineSteps
+    /// The pixels of a line within the box, step by step, with their numbers on a grid.
+    pub(crate) fn steps(&self, line: Line, grid: Grid) -> LineSteps
         requires { HasNearEnds line }
         ensures line { result.line ≡ line }
         ensures region { result.region ≡ self.now.region }
+        ensures grid { result.grid ≡ grid }
         ensures all { HasAllSteps result }
     {
-        LineSteps::new(line, self.region)
+        LineSteps::numbered(line, self.region, grid)
     }
 
     /// Marks a pixel of the box as visited, and returns whether it wasn't visited before.

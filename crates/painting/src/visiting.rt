@@ -9,7 +9,7 @@ ghost use Rattle.painting.specs.LinePixels.{MixesLines};
 ghost use Rattle.painting.specs.Visiting.{VisitsLine};
 ghost use Rattle.painting.specs.VisitedMask.{is_taken};
 
-use crate::line_pixels::LinePixels;
+use crate::line_pixels::{LinePixels, grid_of};
 use crate::regions::whole_law;
 use crate::untaken_pixels::UntakenPixels;
 use crate::visited_mask::VisitedMask;
@@ -67,7 +67,7 @@ fn visit_line(canvas: &mut Canvas, visited: &mut VisitedMask, line: Line, mix: M
     if is_point(line) {
         return;
     }
-    let steps = visited.steps(line);
+    let steps = visited.steps(line, grid_of(canvas));
     if steps.is_empty() {
         return;
     }

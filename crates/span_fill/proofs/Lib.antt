@@ -3,6 +3,7 @@ pub mod FloorLemmas
 pub mod StepLemmas
 pub mod LineLaw
 pub mod WalkLemmas
+pub mod NumberingLemmas
 pub mod MajorLineLemmas
 pub mod ClipLemmas
 pub mod StepsLemmas

@@ -10,6 +10,7 @@ use Rattle.span_fill.specs.Steps.{HasAllSteps, IsStepPixel}
 use Rattle.span_fill.specs.StepsInside.{IsUnderway}
 use Rattle.span_fill.specs.Strokes.{far, is_along, is_y_major, on_line, step_at}
 use Rattle.span_fill.specs.Walks.{IsMoved, IsSmall}
+use Rattle.span_fill.specs.declared.grid.Grid.{Grid}
 use Rattle.span_fill.specs.declared.line.Line.{Line}
 use Rattle.span_fill.specs.declared.pixel.Pixel.{Pixel}
 use Rattle.span_fill.specs.declared.span.Region.{Region}
@@ -156,8 +157,8 @@ abbrev IsClip : Line → Region → Bool → ℕ → ℕ → Type 0
 IsClip line region y_major next end =
     (a b : ℤ) → IsPixelOf (major_of y_major line) a b → ((next ≤ major_step (major_of y_major line) a) × (major_step (major_of y_major line) a < end)) ↔ (SpanHas (along_span y_major region) a × SpanHas (across_span y_major region) b)
 
-pub all_steps : (line : Line) (region : Region) (y_major : Bool) (next end : ℕ) → y_major ≡ is_y_major line → IsClip line region y_major next end → HasAllSteps (record { line = line; region = region; next = next; end = end })
-all_steps line region true next end axis clip = record {
+pub all_steps : (line : Line) (region : Region) (grid : Grid) (y_major : Bool) (next end : ℕ) → y_major ≡ is_y_major line → IsClip line region y_major next end → HasAllSteps (record { line = line; region = region; grid = grid; next = next; end = end })
+all_steps line region grid true next end axis clip = record {
   from = λ x y on inside.
       let within = pixel_region region true (pos y) (pos x) x y refl refl inside in
       let there = (clip (pos y) (pos x) (pixel_line line true (pos y) (pos x) (pos x) (pos y) axis refl refl on)).1 within in
@@ -167,7 +168,7 @@ all_steps line region true next end axis clip = record {
       let there = (clip (pos y) (pos x) (pixel_line line true (pos y) (pos x) (pos x) (pos y) axis refl refl on)).1 within in
       omega (arith, there.1, line_step line true (pos y) (pos x) (pos x) (pos y) axis refl refl);
 }
-all_steps line region false next end axis clip = record {
+all_steps line region grid false next end axis clip = record {
   from = λ x y on inside.
       let within = pixel_region region false (pos x) (pos y) x y refl refl inside in
       let there = (clip (pos x) (pos y) (pixel_line line false (pos x) (pos y) (pos x) (pos y) axis refl refl on)).1 within in

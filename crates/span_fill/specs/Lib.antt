@@ -10,6 +10,7 @@ pub mod Crossings
 pub mod Axis
 pub mod Walks
 pub mod MajorLines
+pub mod Numberings
 pub mod Clips
 pub mod Steps
 pub mod StepsInside

@@ -2,6 +2,7 @@
 use Rattle.std.specs.Prelude.{◌≡◌, ℕ, ◌+◌, ◌^◌, ◌<◌, ◌≤◌, ℤ, Bool}
 use Rattle.span_fill.specs.Clips.{SpanHas}
 use Rattle.span_fill.specs.MajorLines.{IsOn, IsPixelOf, across_span, along_span, major_of, length_of, major_step}
+use Rattle.span_fill.specs.Numberings.{IsNumbered}
 use Rattle.span_fill.specs.Strokes.{is_y_major}
 use Rattle.span_fill.specs.declared.line.Line.{Line}
 use Rattle.span_fill.specs.declared.span.Region.{Region}
@@ -24,5 +25,6 @@ pub record IsUnderway (line : Line) (region : Region) (y_major : Bool) (next end
       → SpanHas (across_span y_major region) v
 
 -- this holds for all values of the type
-abbrev pub AreSteps : Inside → Type 0
-AreSteps steps = IsUnderway steps.line steps.region steps.y_major steps.next steps.end steps.walk
+pub record AreSteps (steps : Inside) : Type 0 where
+  pub way : IsUnderway steps.line steps.region steps.y_major steps.next steps.end steps.walk
+  pub numbers : steps.next < steps.end → IsNumbered steps.grid steps.y_major steps.walk steps.numbering

@@ -3,11 +3,14 @@
 ghost use Rattle.std.specs.Prelude.{◌≡◌, ◌≤◌, ◌<◌};
 ghost use Rattle.span_fill.specs.MajorLines.{AreStepsWithin, IsMajorLine, IsOn, across_span, along_span, major_of, length_of};
 ghost use Rattle.span_fill.specs.Lines.{HasNearEnds};
+ghost use Rattle.span_fill.specs.Numberings.{IsNumbered};
 ghost use Rattle.span_fill.specs.Strokes.{is_y_major};
 
 use crate::clip::clipped;
+use crate::grid::Grid;
 use crate::line::Line;
 use crate::major_line::MajorLine;
+use crate::numbering::Numbering;
 use crate::span::{Region, Span};
 use crate::walk::Walk;
 
@@ -67,5 +70,25 @@ pub(crate) fn walk_within(major: MajorLine, steps: Span) -> Walk
         major.walk(steps.from)
     } else {
         Walk::default()
+    }
+}
+
+/// The numbering at the walk's position, at the first of these steps, or any numbering if there is none.
+pub(crate) fn numbered_within(
+    grid: Grid,
+    major: MajorLine,
+    steps: Span,
+    walk: Walk,
+    y_major: bool,
+) -> Numbering
+    requires major { IsMajorLine major }
+    requires bound { steps.to ≤ length_of major }
+    requires walk { steps.from < steps.to → IsOn major steps.from walk }
+    ensures { steps.from < steps.to → IsNumbered grid y_major walk result }
+{
+    if steps.from < steps.to {
+        Numbering::new(grid, walk, y_major)
+    } else {
+        Numbering::default()
     }
 }

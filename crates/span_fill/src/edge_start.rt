@@ -146,7 +146,7 @@ pub(crate) fn product(a: i64, b: i64) -> i64
 }
 
 /// The sum.
-fn sum(a: i64, b: i64) -> i64
+pub(crate) fn sum(a: i64, b: i64) -> i64
     requires a { IsWithin (2 ^ 61) a }
     requires b { IsWithin (2 ^ 61) b }
     ensures value { result ≡ a +ℤ b }

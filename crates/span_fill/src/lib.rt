@@ -13,8 +13,8 @@
 //!   and nothing else changes (`RowBuf::find_crossings`, `RowBuf::crossings`).
 //! - Within its capacity a row buffer allocates no memory, and after a failed allocation it is unchanged
 //!   (`RowBuf::reserve`).
-//! - The pixels of a line within a region are returned in order, each once, and no others (`LineSteps::new`,
-//!   `LineSteps::next`).
+//! - The pixels of a line within a region are returned in order, each once, and no others, with their numbers on a grid
+//!   too (`LineSteps::new`, `LineSteps::numbered`, `LineSteps::next`, `LineSteps::next_numbered`).
 //! - What a nib covers as it moves along a line is returned row by row, as one span per row (`WideLine::new`,
 //!   `WideLine::next`).
 //! - What a nib covers in a region as it moves along many lines is returned span by span, each pixel once and no others
@@ -45,6 +45,7 @@ mod edge_list;
 mod edge_start;
 mod events;
 mod fill_rule;
+mod grid;
 mod insertion;
 mod joining;
 mod laws;
@@ -54,6 +55,7 @@ mod major_line;
 mod mask_frame;
 mod mask_marks;
 mod memory;
+mod numbering;
 mod outline;
 mod pixel;
 mod product;
@@ -77,10 +79,11 @@ mod winding;
 
 pub use crossing::Crossing;
 pub use fill_rule::FillRule;
+pub use grid::Grid;
 pub use laws::{line_box_law, line_law, row_law, wide_stroke_law};
 pub use line::Line;
 pub use outline::Outline;
-pub use pixel::Pixel;
+pub use pixel::{NumberedPixel, Pixel};
 pub use row_buf::RowBuf;
 pub use row_error::OutOfMemory;
 pub use span::{Region, Span};

@@ -2,11 +2,13 @@
 
 ghost use Rattle.std.specs.Prelude.{◌≡◌, ◌↔◌, ◌<◌, ◌≤◌, IsTrue};
 ghost use Rattle.span_fill.specs.Lines.{HasNearEnds};
-ghost use Rattle.span_fill.specs.Steps.{GivesPixel, HasAllSteps, TakesStep};
+ghost use Rattle.span_fill.specs.Steps.{GivesNumbered, GivesPixel, HasAllSteps, TakesNumbered};
 
-use crate::axes::{major_along, runs_y_major, steps_within, walk_within};
+use crate::axes::{major_along, numbered_within, runs_y_major, steps_within, walk_within};
+use crate::grid::Grid;
 use crate::line::Line;
-use crate::pixel::Pixel;
+use crate::numbering::Numbering;
+use crate::pixel::{NumberedPixel, Pixel};
 use crate::span::Region;
 use crate::walk::Walk;
 use std::marker::Model;
@@ -21,8 +23,11 @@ use std::marker::Model;
 pub struct LineSteps {
     line: Line,
     region: Region,
+    grid: Grid,
     /// The position of the pixel of step `next`, if a step remains.
     walk: Walk,
+    /// The number of that pixel on the grid.
+    numbering: Numbering,
     y_major: bool,
     next: u32,
     end: u32,
@@ -33,7 +38,7 @@ impl Model for LineSteps {
 
     ghost Value = { StepsState };
 
-    ghost view = { λ a. record { line = a.line; region = a.region; next = a.next; end = a.end } };
+    ghost view = { λ a. record { line = a.line; region = a.region; grid = a.grid; next = a.next; end = a.end } };
 
     ghost use Rattle.span_fill.specs.StepsInside.{AreSteps};
 
@@ -51,13 +56,36 @@ impl LineSteps {
         ensures region { result.region ≡ region }
         ensures all { HasAllSteps result }
     {
+        LineSteps::numbered(
+            line,
+            region,
+            Grid {
+                stride: 0,
+                first: 0,
+            },
+        )
+    }
+
+    /// The same pixels, with their numbers on a grid.
+    pub fn numbered(line: Line, region: Region, grid: Grid) -> LineSteps
+        requires near { HasNearEnds line }
+        requires columns { region.columns.to ≤ 8192 }
+        requires rows { region.rows.to ≤ 8192 }
+        ensures line { result.line ≡ line }
+        ensures region { result.region ≡ region }
+        ensures grid { result.grid ≡ grid }
+        ensures all { HasAllSteps result }
+    {
         let y_major = runs_y_major(line);
         let major = major_along(line, y_major);
         let clip = steps_within(major, region, y_major);
+        let walk = walk_within(major, clip);
         LineSteps {
             line,
             region,
-            walk: walk_within(major, clip),
+            grid,
+            walk,
+            numbering: numbered_within(grid, major, clip, walk, y_major),
             y_major,
             next: clip.from,
             end: clip.to,
@@ -75,20 +103,35 @@ impl LineSteps {
     pub fn next(&mut self) -> Option<Pixel>
         ensures { GivesPixel self.old result self.new }
     {
+        match self.next_numbered() {
+            Some(numbered) => Some(numbered.pixel),
+            None => None,
+        }
+    }
+
+    /// The pixel of the next step with its number on the grid, or `None` after the last one.
+    pub fn next_numbered(&mut self) -> Option<NumberedPixel>
+        ensures { GivesNumbered self.old result self.new }
+    {
         if self.next >= self.end {
             return None;
         }
         Some(self.take())
     }
 
-    /// The pixel of the next step.
-    fn take(&mut self) -> Pixel
+    /// The pixel of the next step, with its number.
+    fn take(&mut self) -> NumberedPixel
         requires { self.old.next < self.old.end }
-        ensures { TakesStep self.old self.new result }
+        ensures { TakesNumbered self.old self.new result }
     {
-        let pixel = self.walk.pixel(self.y_major);
-        self.walk = self.walk.advanced();
+        let numbered = NumberedPixel {
+            pixel: self.walk.pixel(self.y_major),
+            number: self.numbering.number,
+        };
+        let next = self.walk.advanced();
+        self.numbering = self.numbering.moved(self.walk, next);
+        self.walk = next;
         self.next += 1;
-        pixel
+        numbered
     }
 }

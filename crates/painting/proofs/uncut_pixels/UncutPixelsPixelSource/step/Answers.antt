@@ -8,13 +8,13 @@ use Rattle.painting.proofs.uncut_pixels.UncutPixelsPixelSource.step.Goals as goa
 pub returns-then-has-clause-pixel : goal.returns-then-has-clause-pixel
 returns-then-has-clause-pixel c =
     let has = in_boxes (placed_value c.args.self.now.clip.now) in
-    gives_kept (is_to_step c.args.self.now.pixels.steps) (is_to_step c.step.new.self.steps) has has _ _ c.in-Pixel.pixel c.in-Pixel.ensures.pixel (λ a b. refl) (sym c.has.ensures ∙ c.if-has.true)
+    gives_kept _ (is_to_step c.args.self.now.pixels.steps) (is_to_step c.step.new.self.steps) has has _ _ c.in-Pixel.pixel c.in-Pixel.ensures.pixel (λ a b. refl) (sym c.has.ensures ∙ c.if-has.true)
 
 pub returns-else-has-clause-pixel : goal.returns-else-has-clause-pixel
 returns-else-has-clause-pixel c =
     let has = in_boxes (placed_value c.args.self.now.clip.now) in
     record {
-      same = skips_other (is_to_step c.args.self.now.pixels.steps) (is_to_step c.step.new.self.steps) has has _ _ c.in-Pixel.pixel c.in-Pixel.ensures.pixel (λ a b. refl) (sym c.has.ensures ∙ c.if-has.false);
+      same = skips_other _ (is_to_step c.args.self.now.pixels.steps) (is_to_step c.step.new.self.steps) has has _ _ c.in-Pixel.pixel c.in-Pixel.ensures.pixel (λ a b. refl) (sym c.has.ensures ∙ c.if-has.false);
       less = c.in-Pixel.ensures.pixel.less;
     }
 

@@ -12,7 +12,7 @@ take-requires c = c.args.self.now.boxed c.in-Pixel.pixel.x c.in-Pixel.pixel.y c.
 pub invariant_of-self : goal.invariant_of-self
 invariant_of-self c = record {
   boxed = λ x y h. rw c.take.ensures.region
-      (still_boxed (is_to_step c.args.self.now.pixels.steps) (is_to_step c.step.new.self.steps) (is_taken c.args.self.now.visited.now) (is_taken c.take.new.self) _ _ c.in-Pixel.pixel c.in-Pixel.ensures.pixel c.take.ensures.taken
+      (still_boxed _ (is_to_step c.args.self.now.pixels.steps) (is_to_step c.step.new.self.steps) (is_taken c.args.self.now.visited.now) (is_taken c.take.new.self) _ _ c.in-Pixel.pixel c.in-Pixel.ensures.pixel c.take.ensures.taken
       (in_region c.args.self.now.visited.now.region) c.args.self.now.boxed x y h);
 }
 
@@ -23,22 +23,22 @@ returns-then-take-clause-pixel c =
     let taken = is_taken c.args.self.now.visited.now in
     let later = is_taken c.take.new.self in
     let given = c.in-Pixel.ensures.pixel in
-    gives_kept old now (λ x y. not (taken x y)) (λ x y. not (later x y)) _ _ c.in-Pixel.pixel given
-    (taken_outside old now taken later _ _ c.in-Pixel.pixel given c.take.ensures.taken)
+    gives_kept _ old now (λ x y. not (taken x y)) (λ x y. not (later x y)) _ _ c.in-Pixel.pixel given
+    (taken_outside _ old now taken later _ _ c.in-Pixel.pixel given c.take.ensures.taken)
     (sym c.take.ensures.first ∙ c.if-take.true)
 
 pub returns-then-take-clause-end : goal.returns-then-take-clause-end
 returns-then-take-clause-end c = λ end ends. record {
   same = ends.same;
   region = ends.region ∙ c.take.ensures.region;
-  taken = λ x y. ends.taken x y ∙ still_all (is_to_step c.args.self.now.pixels.steps) (is_to_step c.step.new.self.steps) (is_taken c.args.self.now.visited.now) (is_taken c.take.new.self) _ _ c.in-Pixel.pixel c.in-Pixel.ensures.pixel c.take.ensures.taken x y;
+  taken = λ x y. ends.taken x y ∙ still_all _ (is_to_step c.args.self.now.pixels.steps) (is_to_step c.step.new.self.steps) (is_taken c.args.self.now.visited.now) (is_taken c.take.new.self) _ _ c.in-Pixel.pixel c.in-Pixel.ensures.pixel c.take.ensures.taken x y;
 }
 
 pub returns-else-take-clause-end : goal.returns-else-take-clause-end
 returns-else-take-clause-end c = λ end ends. record {
   same = ends.same;
   region = ends.region ∙ c.take.ensures.region;
-  taken = λ x y. ends.taken x y ∙ still_all (is_to_step c.args.self.now.pixels.steps) (is_to_step c.step.new.self.steps) (is_taken c.args.self.now.visited.now) (is_taken c.take.new.self) _ _ c.in-Pixel.pixel c.in-Pixel.ensures.pixel c.take.ensures.taken x y;
+  taken = λ x y. ends.taken x y ∙ still_all _ (is_to_step c.args.self.now.pixels.steps) (is_to_step c.step.new.self.steps) (is_taken c.args.self.now.visited.now) (is_taken c.take.new.self) _ _ c.in-Pixel.pixel c.in-Pixel.ensures.pixel c.take.ensures.taken x y;
 }
 
 pub returns-else-take-clause-pixel : goal.returns-else-take-clause-pixel
@@ -49,8 +49,8 @@ returns-else-take-clause-pixel c =
     let later = is_taken c.take.new.self in
     let given = c.in-Pixel.ensures.pixel in
     record {
-      same = skips_other old now (λ a b. not (taken a b)) (λ a b. not (later a b)) _ _ c.in-Pixel.pixel given
-          (taken_outside old now taken later _ _ c.in-Pixel.pixel given c.take.ensures.taken)
+      same = skips_other _ old now (λ a b. not (taken a b)) (λ a b. not (later a b)) _ _ c.in-Pixel.pixel given
+          (taken_outside _ old now taken later _ _ c.in-Pixel.pixel given c.take.ensures.taken)
           (sym c.take.ensures.first ∙ c.if-take.false);
       less = given.less;
     }
