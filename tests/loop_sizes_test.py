@@ -1,6 +1,6 @@
 """Shapes at the sizes where the loops over pixels change their way, in the built programs: each pixel is as the reference decides it by itself.
 
-A span is written by eight, sixteen and more pixels at once, a hatch by the cells of a row of eight, a row of an image by sixteen pixels, and a mask
+A span is written by four, eight, sixteen and more pixels at once, a hatch by the cells of a row of eight, a row of an image by sixteen pixels, and a mask
 of visited pixels by words of 64."""
 
 import random
@@ -17,7 +17,7 @@ from reference.pixels import Axis
 from reference.player import Reference
 
 # One and two pixels, and the sizes next to multiples of what is written at once.
-WIDTHS = [1, 2, 7, 8, 9, 15, 16, 17, 31, 32, 33, 63, 64, 65]
+WIDTHS = [1, 2, 3, 4, 5, 7, 8, 9, 15, 16, 17, 23, 24, 25, 31, 32, 33, 63, 64, 65]
 
 LONGEST = 8192
 
@@ -119,12 +119,29 @@ class Sizes(unittest.TestCase):
         )
 
     @for_each_program
+    def test_boxes_of_each_width_from_each_column(self, program):
+        self.check(
+            program,
+            (
+                Drawn((width + 11, 9), f"raster {raster}", cuts, FILLED, f"rectangle {left} {top} {left + width - 1} {bottom}")
+                for width in WIDTHS
+                for left, top, bottom, raster, cuts in [
+                    (0, 0, 8, 13, []),
+                    (9, 3, 3, 13, []),
+                    (-1, -3, 12, 13, ["keep 1 1 400 7"]),
+                    (5, 2, 6, 13, ["cut 7 3 9 5"]),
+                    (5, 2, 6, 7, []),
+                ]
+            ),
+        )
+
+    @for_each_program
     def test_surfaces_of_each_width(self, program):
         self.check(program, (Drawn((width, 5), BOTH, "fill_mode 2", zigzag(width, 5, 9)) for width in WIDTHS))
 
     @for_each_program
     def test_hatches_of_each_width_from_each_column(self, program):
-        self.check(program, (Drawn((width + 9, 96), list(hatch_steps(width))) for width in WIDTHS[:11]))
+        self.check(program, (Drawn((width + 9, 96), list(hatch_steps(width))) for width in WIDTHS if width <= 33))
 
     @for_each_program
     def test_strokes_of_several_lines_on_surfaces_of_each_width(self, program):

@@ -2,4 +2,4 @@
 
 /// The line that `--version` writes: the version, and the checksum of all sources but this one.
 pub(crate) const VERSION: &str =
-    "metaplay 1.0.0 (sources 7072e48598f8885487f38aec3b467d5b2cb28e1447b672037411bbf55c106863)\n";
+    "metaplay 1.0.0 (sources ed73b4c8f0d68be63a3d206319976cceb31b93d471d4a54cbc974fcb4881f7e8)\n";

@@ -2,7 +2,9 @@
 
 ghost use Rattle.std.specs.Prelude.{◌≡◌, ◌≤◌, ℕ, [], None, Some, true, length, IfSome, IsTrue};
 ghost use Rattle.mapping.specs.PixelBoxes.{in_box};
+ghost use Rattle.canvas.specs.Writing.{Repaints};
 ghost use Rattle.span_fill.specs.RowState.{IsFillingWork};
+ghost use Rattle.span_fill.specs.Spans.{in_region};
 ghost use Rattle.painting.specs.FillStyles.{fill_style_paint, in_inside};
 ghost use Rattle.painting.specs.Fills.{PutsShape, is_filled};
 ghost use Rattle.painting.specs.Regions.{HasRegion, IsOfSide};
@@ -13,6 +15,7 @@ ghost use Rattle.painting.specs.SourceRows.{ReadsBox};
 use crate::fill_spans::FillSpans;
 use crate::fill_style::FillStyle;
 use crate::outline_rows::{Part, paint_rows, rule_of};
+use crate::region_spans::RegionSpans;
 use crate::regions::{visible_in, whole_law};
 use crate::row_op_scratch::RowOpScratch;
 use crate::scratch::DrawingScratch;
@@ -83,9 +86,42 @@ fn put_inside(canvas: &mut Canvas, rows: &mut RowBuf, drawn: Region, colour: Col
     canvas.put_each_span(&mut spans, colour);
 }
 
-/// Fills a box. If the style has a source, the box is the one that the source is stretched to. A row of source colours
-/// is gathered once and kept for as long as the rows of the box use it.
+/// Fills a box. If the style has a source, the box is the one that the source is stretched to.
 pub(crate) fn fill_box(
+    canvas: &mut Canvas,
+    inside: Rect,
+    paint: &FillStyle<'_, '_>,
+    scratch: &mut RowOpScratch,
+)
+    requires countable { HasCapacityForLayer canvas.old }
+    requires reads { IfSome paint.now.source (λ reader. ReadsBox reader inside) }
+    ensures pixels { PaintsShape (fill_style_paint paint.now) (in_box inside) canvas.old canvas.new }
+    ensures few { CountsLayer canvas.old canvas.new }
+{
+    writing_law();
+    whole_law(canvas);
+    if let (Some(colour), true) = (paint.same_colour(), paint.clip.cut_boxes().is_empty()) {
+        let drawn = visible_in(canvas, paint.clip, inside);
+        put_region(canvas, drawn, colour);
+        return;
+    }
+    fill_box_by_rows(canvas, inside, paint, scratch);
+}
+
+/// Writes the pixels of a region in one colour.
+fn put_region(canvas: &mut Canvas, region: Region, colour: Colour)
+    requires held { HasRegion canvas.old region }
+    requires countable { HasCapacityForLayer canvas.old }
+    ensures pixels { Repaints (in_region region) (λ x y old. colour) canvas.old canvas.new }
+{
+    whole_law(canvas);
+    let mut spans = RegionSpans { rest: region };
+    canvas.put_each_span(&mut spans, colour);
+}
+
+/// Fills a box row by row. A row of source colours is gathered once and kept for as long as the rows of the box use it.
+#[inline(never)]
+fn fill_box_by_rows(
     canvas: &mut Canvas,
     inside: Rect,
     paint: &FillStyle<'_, '_>,

@@ -24,6 +24,7 @@ mod path_moves;
 mod piece_lines;
 mod placed_lines;
 mod rectangles;
+mod region_spans;
 mod regions;
 mod row_op;
 mod row_op_scratch;

@@ -1,5 +1,7 @@
 -- When a machine and a canvas are ready to play a cleared file in bands.
-use Rattle.std.specs.Prelude.{◌≡◌, ◌≤◌}
+use Rattle.std.specs.Prelude.{◌≡◌, ℕ, ◌-◌, ◌≤◌, min}
+use Rattle.mapping.specs.Image.{blank}
+use Rattle.canvas.specs.CanvasState.{CanvasState, image_of}
 use Rattle.preflight_cert.specs.declared.cleared.Cleared.{Cleared}
 use Rattle.player.specs.Bands.{plan_surface}
 use Rattle.player.specs.Ready.{IsReadyToPlay}
@@ -12,3 +14,9 @@ pub record IsReadyForBands (cleared : Cleared) (plan : BandPlan) (scratch : Band
   pub surface : scratch.machine.surface ≡ plan_surface cleared plan
   pub width : scratch.canvas.width ≡ plan.width
   pub some : 1 ≤ scratch.canvas.most
+
+-- the canvas shows the rows of the band that begins at this row, in one colour
+pub record IsBlankBand (plan : BandPlan) (first : ℕ) (canvas : CanvasState) : Type 0 where
+  pub top : canvas.first ≡ first
+  pub rows : canvas.rows ≡ min canvas.most (plan.height - first)
+  pub image : image_of canvas ≡ blank plan.width canvas.rows plan.start

@@ -4,7 +4,7 @@ ghost use Rattle.std.specs.Prelude.{◌≡◌, ◌+◌, ◌<◌, ◌≤◌, min,
 ghost use Rattle.player.specs.Bands.{PlaysClearedBand};
 ghost use Rattle.player.specs.Bounds.{IsPlayFault, ReportsTooLarge};
 ghost use Rattle.player.specs.Counts.{CountsFile, HasCapacityForFile};
-ghost use Rattle.player.specs.ReadyBands.{IsReadyForBands};
+ghost use Rattle.player.specs.ReadyBands.{IsBlankBand, IsReadyForBands};
 
 use crate::band_plan::BandPlan;
 use crate::play_scratch::{PlayScratch, play_scratch};
@@ -25,8 +25,9 @@ pub(crate) struct BandScratch<'a> {
     pub canvas: Canvas,
 }
 
-/// Allocates the memory for playing a cleared file in the bands of a plan. Returns `SurfaceTooLarge` exactly if the
-/// surface exceeds the certificate's bound, and `OutOfMemory` if an allocation fails.
+/// Allocates the memory for playing a cleared file in the bands of a plan. The canvas shows the first band, before
+/// anything is drawn. Returns `SurfaceTooLarge` exactly if the surface exceeds the certificate's bound, and
+/// `OutOfMemory` if an allocation fails.
 pub(crate) fn band_scratch<'a>(
     alloc: Global,
     cleared: &Cleared<'a>,
@@ -34,6 +35,7 @@ pub(crate) fn band_scratch<'a>(
 ) -> Result<BandScratch<'a>, Fault>
     ensures ready { IfOk result (IsReadyForBands cleared.now plan) }
     ensures most { IfOk result (λ scratch. scratch.canvas.most ≡ min plan.rows plan.height) }
+    ensures blank { IfOk result (λ scratch. IsBlankBand plan 0 scratch.canvas) }
     ensures unwritten { IfOk result (λ scratch. scratch.canvas.writes ≡ 0) }
     ensures too_large { ReportsTooLarge result plan.width plan.height cleared.now.certificate }
     ensures refusal { IfErr result IsPlayFault }
@@ -54,7 +56,8 @@ pub(crate) fn band_scratch<'a>(
     }
 }
 
-/// Plays the whole file on the band that begins at row `first`, and returns the number of rows in that band.
+/// Plays the whole file on the band that begins at row `first` and that the canvas shows, before anything is drawn.
+/// Returns the number of rows in that band.
 pub(crate) fn show_band<'a>(
     cleared: &Cleared<'a>,
     scratch: &mut BandScratch<'a>,
@@ -63,6 +66,7 @@ pub(crate) fn show_band<'a>(
 ) -> u32
     requires ready { IsReadyForBands cleared.now plan scratch.old }
     requires below { first < plan.height }
+    requires blank { IsBlankBand plan first scratch.old.canvas }
     requires countable { HasCapacityForFile scratch.old.canvas }
     ensures some { 1 ≤ result }
     ensures within { first + result ≤ plan.height }
@@ -76,9 +80,24 @@ pub(crate) fn show_band<'a>(
         drawings,
         canvas,
     } = scratch;
-    let rows = canvas.most_rows().min(plan.height - first);
+    let rows = canvas.rows();
     machine.restart(&cleared.opened);
-    canvas.again(first, rows, plan.start);
     play_rows(cleared, machine, drawings, canvas);
     rows
+}
+
+/// Resets the canvas to the band that begins at row `first`, unless that is below the surface.
+pub(crate) fn begin_band(canvas: &mut Canvas, plan: BandPlan, first: u32)
+    requires some { 1 ≤ canvas.old.most }
+    requires width { canvas.old.width ≡ plan.width }
+    requires low { plan.height ≤ 8192 }
+    ensures blank { first < plan.height → IsBlankBand plan first canvas.new }
+    ensures width { canvas.new.width ≡ canvas.old.width }
+    ensures most { canvas.new.most ≡ canvas.old.most }
+    ensures writes { canvas.new.writes ≡ canvas.old.writes }
+{
+    if first < plan.height {
+        let rows = canvas.most_rows().min(plan.height - first);
+        canvas.again(first, rows, plan.start);
+    }
 }

@@ -6,10 +6,10 @@ ghost use Rattle.player.specs.Bands.{CountsRows, IsWriteFault, WritesPrefixTo, W
 ghost use Rattle.player.specs.Bands.{WritesRows, WritesRowsPrefix, WritesRun};
 ghost use Rattle.player.specs.Bounds.{IsBandFault, ReportsTooLarge};
 ghost use Rattle.player.specs.ClearedPlay.{AreClearedWrites};
-ghost use Rattle.player.specs.ReadyBands.{IsReadyForBands};
+ghost use Rattle.player.specs.ReadyBands.{IsBlankBand, IsReadyForBands};
 
 use crate::band_plan::BandPlan;
-use crate::band_scratch::{BandScratch, band_scratch, show_band};
+use crate::band_scratch::{BandScratch, band_scratch, begin_band, show_band};
 use crate::part_writer::{Counted, PartWriter, Uncounted};
 use canvas::{FaultCount, WriteFault};
 use draw_ops::{Fault, content_law};
@@ -108,6 +108,7 @@ fn write_image<'a, W: Write, P: PartWriter<W>>(
 ) -> Result<u64, Fault>
     requires ready { IsReadyForBands cleared.now plan scratch.old }
     requires unwritten { scratch.old.canvas.writes ≡ 0 }
+    requires blank { IsBlankBand plan 0 scratch.old.canvas }
     requires capacity { P.faults out.old + P.counted < 2 ^ 64 }
     ensures text { OnOk result (WritesPlan cleared.now plan W.contents out.old out.new) }
     ensures writes { IfOk result (AreClearedWrites cleared.now plan.width plan.height) }
@@ -137,6 +138,7 @@ fn write_bands<'a, W: Write, P: PartWriter<W>>(
 ) -> Result<(), WriteFault>
     requires ready { IsReadyForBands cleared.now plan scratch.old }
     requires unwritten { scratch.old.canvas.writes ≡ 0 }
+    requires blank { IsBlankBand plan 0 scratch.old.canvas }
     requires capacity { P.faults out.old + P.counted < 2 ^ 64 }
     ensures text { OnOk result (WritesRows cleared.now plan plan.height W.contents out.old out.new) }
     ensures counted { OnOk result (CountsRows cleared.now plan plan.height scratch.new.canvas.writes) }
@@ -152,6 +154,7 @@ fn write_bands<'a, W: Write, P: PartWriter<W>>(
         let rows = show_band(cleared, scratch, plan, first);
         P::write_rows(out, &scratch.canvas)?;
         first += rows;
+        begin_band(&mut scratch.canvas, plan, first);
     }
     Ok(())
 }

@@ -1,4 +1,4 @@
-use Rattle.std.proofs.Common.{◌≡◌, ℕ, ◌≤◌, ◌^◌, arith, rules, subst}
+use Rattle.std.proofs.Common.{◌≡◌, ℕ, ◌+◌, ◌≤◌, ◌^◌, ◌∙◌, arith, rules, subst, sym}
 use Rattle.std.proofs.lemmas.Result.{err_from_is_err_and}
 use Rattle.meta_headers.specs.OpenedOf.{opened_of}
 use Rattle.player.specs.Bands.{CountsRows, WritesRows, plan_surface}
@@ -17,6 +17,7 @@ loop-first-init g c =
     record {
       within = omega arith;
       ready = c.requires.ready;
+      blank = λ below. c.requires.blank;
       few = omega (arith, none);
       written = none_written laws o cleared.opened.records.now s plan.start plan.wide _ _ c.in_ok-write_header.ensures.ok;
       counted = none_counted laws o cleared.opened.records.now s plan.start plan.wide _ none;
@@ -45,17 +46,27 @@ loop-first-preserved g c =
     let inv = loop.invariant in
     let shown = c.show_band-rows.new.scratch.canvas in
     let played = c.show_band-rows.ensures.played in
+    let ready = c.show_band-rows.ensures.ready in
+    let begun = c.begin_band.ensures in
+    let writes = begun.writes in
     let few = inv.few in
     let bounded = c.show_band-rows.ensures.bounded in
     let some = c.show_band-rows.ensures.some in
     let faults = inv.faults in
     let more = c.write_rows.ensures.count in
+    let counted = band_counted laws o records s plan.start plan.wide loop.first c.show_band-rows.result loop.scratch.canvas shown played inv.counted in
     record {
       within = c.show_band-rows.ensures.within;
-      ready = c.show_band-rows.ensures.ready;
-      few = omega (arith, few, bounded, some);
+      ready = record {
+        ready = ready.ready;
+        surface = ready.surface;
+        width = begun.width ∙ ready.width;
+        some = subst (λ (n : ℕ). 1 ≤ n) (sym begun.most) ready.some;
+      };
+      blank = begun.blank;
+      few = omega (arith, few, bounded, some, writes);
       written = band_written laws o records s plan.start plan.wide loop.first c.show_band-rows.result loop.scratch.canvas shown played _ _ _ inv.written c.in_ok-write_rows.ensures.ok;
-      counted = band_counted laws o records s plan.start plan.wide loop.first c.show_band-rows.result loop.scratch.canvas shown played inv.counted;
+      counted = subst (λ (n : ℕ). CountsRows cleared plan (loop.first + c.show_band-rows.result) n) (sym writes) counted;
       capacity = c.in_ok-write_rows.ensures.capacity;
       faults = omega (arith, faults, more);
     }

@@ -1,6 +1,6 @@
 use Rattle.std.proofs.Common.{◌+◌, ◌-◌, ◌*◌, ◌<◌, ◌≤◌, ◌^◌}
 use Rattle.player.specs.Bands.{CountsRows, WritesRows}
-use Rattle.player.specs.ReadyBands.{IsReadyForBands}
+use Rattle.player.specs.ReadyBands.{IsBlankBand, IsReadyForBands}
 use Rattle.player.proofs.bands.write_bands.Given as goal
 
 -- the rows above the next band are written, and their pixels are counted
@@ -8,6 +8,7 @@ abbrev pub invariant-loop-first : goal.invariant-loop-first
 invariant-loop-first g l = record {
   within : l.first ≤ l.plan.height;
   ready : IsReadyForBands l.cleared l.plan l.scratch;
+  blank : l.first < l.plan.height → IsBlankBand l.plan l.first l.scratch.canvas;
   few : l.scratch.canvas.writes ≤ 140737488355328 * l.first;
   written : WritesRows l.cleared l.plan l.first g.W.Write.contents l.fn.out l.out;
   counted : CountsRows l.cleared l.plan l.first l.scratch.canvas.writes;

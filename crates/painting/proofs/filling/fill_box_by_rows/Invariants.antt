@@ -4,7 +4,7 @@ use Rattle.mapping.specs.PixelBoxes.{in_box}
 use Rattle.painting.specs.RowPainters.{painter_paint}
 use Rattle.painting.specs.SourceRows.{HoldsRow}
 use Rattle.painting.proofs.RowLemmas.{HasRowsPainted}
-use Rattle.painting.proofs.filling.fill_box.Given as goal
+use Rattle.painting.proofs.filling.fill_box_by_rows.Given as goal
 
 -- the rows so far are painted, and the colours gathered last are kept
 abbrev pub invariant-loop-y : goal.invariant-loop-y
