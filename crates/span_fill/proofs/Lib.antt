@@ -3,6 +3,7 @@ pub mod FloorLemmas
 pub mod StepLemmas
 pub mod LineLaw
 pub mod WalkLemmas
+pub mod FixedWalkLemmas
 pub mod NumberingLemmas
 pub mod MajorLineLemmas
 pub mod ClipLemmas

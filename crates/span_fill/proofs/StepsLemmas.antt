@@ -4,12 +4,13 @@ use Rattle.std.specs.Prelude.{IsTrue, nat_le, nat_lt, ◌↔◌}
 use Rattle.std.proofs.lemmas.Bool.{and_parts, and_from, le-leb, leb-true, lt-ltb, ltb-true}
 use Rattle.std.proofs.lemmas.Int.{ints}
 use Rattle.span_fill.specs.Clips.{SpanHas}
+use Rattle.span_fill.specs.FixedWalks.{CanWalk, IsOnSurface}
 use Rattle.span_fill.specs.MajorLines.{IsOn, IsPixelOf, across_span, along_span, pixel_column, major_of, length_of, pixel_row, major_step}
 use Rattle.span_fill.specs.Spans.{in_region, in_span}
 use Rattle.span_fill.specs.Steps.{HasAllSteps, IsStepPixel}
 use Rattle.span_fill.specs.StepsInside.{IsUnderway}
 use Rattle.span_fill.specs.Strokes.{far, is_along, is_y_major, on_line, step_at}
-use Rattle.span_fill.specs.Walks.{IsMoved, IsSmall}
+use Rattle.span_fill.specs.Walks.{IsMoved}
 use Rattle.span_fill.specs.declared.grid.Grid.{Grid}
 use Rattle.span_fill.specs.declared.line.Line.{Line}
 use Rattle.span_fill.specs.declared.pixel.Pixel.{Pixel}
@@ -49,13 +50,7 @@ across_within true region h k = h
 across_within false region h k = k
 
 -- the coordinates here are those of a row and of a column
-pub record IsWithinSurface (walk : Walk) : Type 0 where
-  pub u_low : pos 0 ≤ℤ walk.u
-  pub u_high : walk.u <ℤ pos 8192
-  pub v_low : pos 0 ≤ℤ walk.v
-  pub v_high : walk.v <ℤ pos 8192
-
-pub here_within : (line : Line) (region : Region) (y_major : Bool) (next end : ℕ) (walk : Walk) → IsUnderway line region y_major next end walk → next < end → IsWithinSurface walk
+pub here_within : (line : Line) (region : Region) (y_major : Bool) (next end : ℕ) (walk : Walk) → IsUnderway line region y_major next end walk → next < end → IsOnSurface walk
 here_within line region y_major next end walk way more =
     let stands = here line region y_major next end walk way more in
     let u = stands.along in
@@ -69,19 +64,17 @@ here_within line region y_major next end walk way more =
       v_high = omega (arith, ints, v.1, across);
     }
 
-pub here_small : (line : Line) (region : Region) (y_major : Bool) (next end : ℕ) (walk : Walk) → IsUnderway line region y_major next end walk → next < end → IsSmall walk
-here_small line region y_major next end walk way more =
-    let near = here_within line region y_major next end walk way more in
+-- a position here can go on in fixed point
+pub here_can_walk : (line : Line) (region : Region) (y_major : Bool) (next end : ℕ) (walk : Walk) → IsUnderway line region y_major next end walk → next < end → CanWalk walk
+here_can_walk line region y_major next end walk way more =
     let stands = way.stands more in
     record {
-      u_low = omega (arith, ints, near.u_low);
-      u_high = omega (arith, ints, near.u_high);
-      v_low = omega (arith, ints, near.v_low);
-      v_high = omega (arith, ints, near.v_high);
+      on = here_within line region y_major next end walk way more;
       back_low = stands.back_low;
       back_high = stands.back_high;
-      rest = omega (arith, stands.rest_below, stands.full, way.short);
-      more = omega (arith, stands.more_within, stands.full, way.short);
+      rest = stands.rest_below;
+      more = stands.more_within;
+      small = omega (arith, stands.full, way.short);
     }
 
 -- the step behind

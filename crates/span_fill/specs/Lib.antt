@@ -9,6 +9,7 @@ pub mod ColumnTables
 pub mod Crossings
 pub mod Axis
 pub mod Walks
+pub mod FixedWalks
 pub mod MajorLines
 pub mod Numberings
 pub mod Clips

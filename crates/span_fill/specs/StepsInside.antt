@@ -1,6 +1,7 @@
 -- The fields of steps.
 use Rattle.std.specs.Prelude.{◌≡◌, ℕ, ◌+◌, ◌^◌, ◌<◌, ◌≤◌, ℤ, Bool}
 use Rattle.span_fill.specs.Clips.{SpanHas}
+use Rattle.span_fill.specs.FixedWalks.{HasFew, IsFixed}
 use Rattle.span_fill.specs.MajorLines.{IsOn, IsPixelOf, across_span, along_span, major_of, length_of, major_step}
 use Rattle.span_fill.specs.Numberings.{IsNumbered}
 use Rattle.span_fill.specs.Strokes.{is_y_major}
@@ -24,7 +25,12 @@ pub record IsUnderway (line : Line) (region : Region) (y_major : Bool) (next end
       (u v : ℤ) → IsPixelOf (major_of y_major line) u v → next ≤ major_step (major_of y_major line) u → major_step (major_of y_major line) u < end
       → SpanHas (across_span y_major region) v
 
--- this holds for all values of the type
+-- This holds for all values of the type: there is a walk at the next step, of which the position is the one in fixed
+-- point, after so many steps.
 pub record AreSteps (steps : Inside) : Type 0 where
-  pub way : IsUnderway steps.line steps.region steps.y_major steps.next steps.end steps.walk
-  pub numbers : steps.next < steps.end → IsNumbered steps.grid steps.y_major steps.walk steps.numbering
+  pub walk : Walk
+  pub taken : ℕ
+  pub way : IsUnderway steps.line steps.region steps.y_major steps.next steps.end walk
+  pub fixed : steps.next < steps.end → IsFixed taken walk steps.position
+  pub few : steps.next < steps.end → HasFew taken walk
+  pub numbers : steps.next < steps.end → IsNumbered steps.grid steps.y_major steps.position steps.numbering

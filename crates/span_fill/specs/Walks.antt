@@ -4,17 +4,6 @@ use Rattle.span_fill.specs.Axis.{ahead}
 use Rattle.span_fill.specs.Strokes.{far}
 use Rattle.span_fill.specs.declared.walk.Walk.{Walk}
 
--- a step causes no overflow
-pub record IsSmall (walk : Walk) : Type 0 where
-  pub u_low : negsuc (2 ^ 30) ≤ℤ walk.u
-  pub u_high : walk.u ≤ℤ pos (2 ^ 30)
-  pub v_low : negsuc (2 ^ 30) ≤ℤ walk.v
-  pub v_high : walk.v ≤ℤ pos (2 ^ 30)
-  pub back_low : negsuc 0 ≤ℤ walk.back
-  pub back_high : walk.back ≤ℤ pos 0
-  pub rest : walk.rest < 2 ^ 31
-  pub more : walk.more < 2 ^ 31
-
 -- what a walk keeps from step to step
 pub record WalksOn (old new : Walk) : Type 0 where
   pub more : new.more ≡ old.more

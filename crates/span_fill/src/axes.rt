@@ -1,12 +1,15 @@
 //! Lines and regions by a line's major axis.
 
-ghost use Rattle.std.specs.Prelude.{◌≡◌, ◌≤◌, ◌<◌};
+ghost use Rattle.std.specs.Prelude.{◌≡◌, ◌≤◌, ◌<◌, ◌^◌};
+ghost use Rattle.mapping.specs.Limits.{IsWithin};
+ghost use Rattle.span_fill.specs.FixedWalks.{CanWalk, IsFixed};
 ghost use Rattle.span_fill.specs.MajorLines.{AreStepsWithin, IsMajorLine, IsOn, across_span, along_span, major_of, length_of};
 ghost use Rattle.span_fill.specs.Lines.{HasNearEnds};
 ghost use Rattle.span_fill.specs.Numberings.{IsNumbered};
 ghost use Rattle.span_fill.specs.Strokes.{is_y_major};
 
 use crate::clip::clipped;
+use crate::fixed_walk::FixedWalk;
 use crate::grid::Grid;
 use crate::line::Line;
 use crate::major_line::MajorLine;
@@ -73,21 +76,30 @@ pub(crate) fn walk_within(major: MajorLine, steps: Span) -> Walk
     }
 }
 
-/// The numbering at the walk's position, at the first of these steps, or any numbering if there is none.
-pub(crate) fn numbered_within(
-    grid: Grid,
-    major: MajorLine,
-    steps: Span,
-    walk: Walk,
-    y_major: bool,
-) -> Numbering
-    requires major { IsMajorLine major }
-    requires bound { steps.to ≤ length_of major }
-    requires walk { steps.from < steps.to → IsOn major steps.from walk }
-    ensures { steps.from < steps.to → IsNumbered grid y_major walk result }
+/// The position at the first of these steps in fixed point, or any position if there is none.
+pub(crate) fn fixed_within(steps: Span, walk: Walk) -> FixedWalk
+    requires { steps.from < steps.to → CanWalk walk }
+    ensures { steps.from < steps.to → IsFixed 1 walk result }
 {
     if steps.from < steps.to {
-        Numbering::new(grid, walk, y_major)
+        FixedWalk::of(walk)
+    } else {
+        FixedWalk::default()
+    }
+}
+
+/// The numbering at the first of these steps, or any numbering if there is none.
+pub(crate) fn numbered_within(
+    grid: Grid,
+    steps: Span,
+    position: FixedWalk,
+    y_major: bool,
+) -> Numbering
+    requires { steps.from < steps.to → IsWithin (2 ^ 30) position.u }
+    ensures { steps.from < steps.to → IsNumbered grid y_major position result }
+{
+    if steps.from < steps.to {
+        Numbering::new(grid, position, y_major)
     } else {
         Numbering::default()
     }

@@ -45,6 +45,7 @@ mod edge_list;
 mod edge_start;
 mod events;
 mod fill_rule;
+mod fixed_walk;
 mod grid;
 mod insertion;
 mod joining;

@@ -1,88 +1,70 @@
 //! Numbers of the pixels along a line, which move by additions.
 
-ghost use Rattle.std.specs.Prelude.{◌≡◌, ◌≤◌, ◌^◌, pos, neg_ℤ, ◌+ℤ◌, ◌-ℤ◌, ◌*ℤ◌, if◌then◌else◌};
+ghost use Rattle.std.specs.Prelude.{◌≡◌, ◌≤◌, ◌<◌, ◌^◌, pos, neg_ℤ, ◌+ℤ◌, ◌-ℤ◌, ◌*ℤ◌, if◌then◌else◌};
 ghost use Rattle.mapping.specs.Limits.{IsWithin};
-ghost use Rattle.span_fill.specs.Numberings.{IsNumbered, IsRenumbered, number_of};
+ghost use Rattle.span_fill.specs.Numberings.{IsNumbered, number_of};
 
 use crate::edge_start::{product, sum};
+use crate::fixed_walk::FixedWalk;
 use crate::grid::Grid;
-use crate::walk::Walk;
 
-/// The number of the pixel at a walk's position, and what a step adds to it.
+/// The number of the pixel at a coordinate on a line's major axis and at 0 on its minor axis, what a step adds to it,
+/// and what one more on the minor axis does.
 #[derive(Clone, Copy, Debug, Default)]
 pub(crate) struct Numbering {
     pub(crate) number: i64,
     pub(crate) along: i64,
-    /// What a step adds besides if the remainder is carried.
-    pub(crate) turn: i64,
+    pub(crate) across: i64,
 }
 
 impl Numbering {
-    /// The numbering at a walk's position.
-    pub(crate) fn new(grid: Grid, walk: Walk, y_major: bool) -> Numbering
-        requires u { IsWithin (2 ^ 30) walk.u }
-        requires v { IsWithin (2 ^ 30) walk.v }
-        requires back { IsWithin 1 walk.back }
-        ensures { IsNumbered grid y_major walk result }
+    /// The numbering at a position.
+    pub(crate) fn new(grid: Grid, position: FixedWalk, y_major: bool) -> Numbering
+        requires { IsWithin (2 ^ 30) position.u }
+        ensures { IsNumbered grid y_major position result }
     {
         let stride = i64::from(grid.stride);
         if y_major {
             Numbering {
-                number: number_of(grid, walk.v, walk.u),
-                along: weighed(walk.forwards, walk.back, stride, 1),
-                turn: 1,
+                number: number_of(grid, 0, position.u),
+                along: directed(position.forwards, stride),
+                across: 1,
             }
         } else {
             Numbering {
-                number: number_of(grid, walk.u, walk.v),
-                along: weighed(walk.forwards, walk.back, 1, stride),
-                turn: stride,
+                number: number_of(grid, position.u, 0),
+                along: directed(position.forwards, 1),
+                across: stride,
             }
         }
     }
 
-    /// The numbering after a walk's step.
+    /// The numbering after a step.
     #[inline]
-    pub(crate) fn moved(self, walk: Walk, next: Walk) -> Numbering
-        requires number { IsWithin (2 ^ 60) self.number }
-        requires along { IsWithin (2 ^ 60) self.along }
-        requires turn { IsWithin (2 ^ 60) self.turn }
-        requires v { IsWithin (2 ^ 30) walk.v }
-        requires back { IsWithin 1 walk.back }
-        ensures { IsRenumbered walk next self result }
+    pub(crate) fn moved(self) -> Numbering
+        requires number { IsWithin (2 ^ 61) self.number }
+        requires along { IsWithin (2 ^ 61) self.along }
+        ensures number { result.number ≡ self.number +ℤ self.along }
+        ensures along { result.along ≡ self.along }
+        ensures across { result.across ≡ self.across }
     {
-        let ahead = sum(self.number, self.along);
         Numbering {
-            number: added(ahead, self.carried(walk, next)),
+            number: sum(self.number, self.along),
             along: self.along,
-            turn: self.turn,
+            across: self.across,
         }
     }
 
-    /// What a walk's step adds besides.
-    fn carried(self, walk: Walk, next: Walk) -> i64
-        requires turn { IsWithin (2 ^ 60) self.turn }
-        requires v { IsWithin (2 ^ 30) walk.v }
-        requires back { IsWithin 1 walk.back }
-        ensures kept { next.v ≡ walk.v +ℤ walk.back → result ≡ pos 0 }
-        ensures turned { next.v ≡ walk.v +ℤ walk.back +ℤ pos 1 → result ≡ self.turn }
-        ensures near { IsWithin (2 ^ 60) result }
+    /// The number of the pixel at this coordinate on the minor axis.
+    #[inline]
+    pub(crate) fn at(self, v: u32) -> i64
+        requires number { IsWithin (2 ^ 61) self.number }
+        requires across { IsWithin (2 ^ 30) self.across }
+        requires v { v < 8192 }
+        ensures { result ≡ self.number +ℤ pos v *ℤ self.across }
     {
-        if next.v == walk.v + walk.back {
-            0
-        } else {
-            self.turn
-        }
+        sum(self.number, product(i64::from(v), self.across))
     }
-}
-
-/// The sum.
-fn added(number: i64, more: i64) -> i64
-    requires number { IsWithin (2 ^ 62) number }
-    requires more { IsWithin (2 ^ 60) more }
-    ensures { result ≡ number +ℤ more }
-{
-    number + more
 }
 
 /// The weight, or if the coordinate doesn't grow, what is opposite to it.
@@ -92,16 +74,6 @@ fn directed(forwards: bool, weight: i64) -> i64
     ensures near { IsWithin (2 ^ 16) result }
 {
     if forwards { weight } else { -weight }
-}
-
-/// What a step adds: the weight of the major axis in its direction, and as often as it goes back that of the minor one.
-fn weighed(forwards: bool, back: i32, major: i64, minor: i64) -> i64
-    requires back { IsWithin 1 back }
-    requires major { IsWithin (2 ^ 16) major }
-    requires minor { IsWithin (2 ^ 16) minor }
-    ensures { result ≡ (if forwards then major else neg_ℤ major) +ℤ back *ℤ minor }
-{
-    sum(directed(forwards, major), product(i64::from(back), minor))
 }
 
 /// The number of the pixel in column `x` of row `y`.

@@ -4,13 +4,15 @@ ghost use Rattle.std.specs.Prelude.{◌≡◌, ◌↔◌, ◌<◌, ◌≤◌, Is
 ghost use Rattle.span_fill.specs.Lines.{HasNearEnds};
 ghost use Rattle.span_fill.specs.Steps.{GivesNumbered, GivesPixel, HasAllSteps, TakesNumbered};
 
-use crate::axes::{major_along, numbered_within, runs_y_major, steps_within, walk_within};
+use crate::axes::{
+    fixed_within, major_along, numbered_within, runs_y_major, steps_within, walk_within,
+};
+use crate::fixed_walk::{FixedWalk, pixel_at};
 use crate::grid::Grid;
 use crate::line::Line;
 use crate::numbering::Numbering;
 use crate::pixel::{NumberedPixel, Pixel};
 use crate::span::Region;
-use crate::walk::Walk;
 use std::marker::Model;
 
 /// The pixels of a line within a region, in the order of the line's steps along its major axis, from its first point
@@ -25,8 +27,8 @@ pub struct LineSteps {
     region: Region,
     grid: Grid,
     /// The position of the pixel of step `next`, if a step remains.
-    walk: Walk,
-    /// The number of that pixel on the grid.
+    position: FixedWalk,
+    /// The number on the grid of the pixel at that position.
     numbering: Numbering,
     y_major: bool,
     next: u32,
@@ -46,8 +48,8 @@ impl Model for LineSteps {
 }
 
 impl LineSteps {
-    /// The pixels of a line that lie in a region. If both ends of the line do, nothing is divided, otherwise up to
-    /// three times.
+    /// The pixels of a line that lie in a region. A line of at most 16,384 steps with both ends in the region costs one
+    /// division, and any other at most seven.
     pub fn new(line: Line, region: Region) -> LineSteps
         requires near { HasNearEnds line }
         requires columns { region.columns.to ≤ 8192 }
@@ -80,12 +82,13 @@ impl LineSteps {
         let major = major_along(line, y_major);
         let clip = steps_within(major, region, y_major);
         let walk = walk_within(major, clip);
+        let position = fixed_within(clip, walk);
         LineSteps {
             line,
             region,
             grid,
-            walk,
-            numbering: numbered_within(grid, major, clip, walk, y_major),
+            position,
+            numbering: numbered_within(grid, clip, position, y_major),
             y_major,
             next: clip.from,
             end: clip.to,
@@ -124,13 +127,13 @@ impl LineSteps {
         requires { self.old.next < self.old.end }
         ensures { TakesNumbered self.old self.new result }
     {
+        let v = self.position.v();
         let numbered = NumberedPixel {
-            pixel: self.walk.pixel(self.y_major),
-            number: self.numbering.number,
+            pixel: pixel_at(self.position.u, v, self.y_major),
+            number: self.numbering.at(v),
         };
-        let next = self.walk.advanced();
-        self.numbering = self.numbering.moved(self.walk, next);
-        self.walk = next;
+        self.position = self.position.advanced();
+        self.numbering = self.numbering.moved();
         self.next += 1;
         numbered
     }
