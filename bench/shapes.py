@@ -21,6 +21,9 @@ PAGE = 20_000
 # How many indexes a file of EMF has for objects.
 HANDLES = 64
 
+# Tools that draw nothing.
+NULL = "null_pen", "null_brush"
+
 TRANSPARENT, OPAQUE = 1, 2
 ALTERNATE, WINDING = 1, 2
 XOR = 7
@@ -32,10 +35,11 @@ def place_in(chance, left, top, side):
 
 
 def pens_and_brushes(chance, *names, form=WMF):
-    """Sixteen objects of each of these kinds, by turns, in any colours."""
+    """Sixteen objects of each of these kinds, by turns, in any colours if they have one."""
     for number in range(16):
         for at, name in enumerate(names):
-            yield form.step(name, number * len(names) + at, chance.getrandbits(24))
+            colour = [chance.getrandbits(24)]
+            yield form.step(name, number * len(names) + at, *([] if name in NULL else colour))
 
 
 def map_of(form, page):
@@ -50,11 +54,11 @@ def on_page(places, page):
     return [number * page // FRAME for place in places for number in place]
 
 
-def small_polygons(form=WMF, page=FRAME, corners=range(3, 9)):
+def small_polygons(form=WMF, page=FRAME, corners=range(3, 9), pen="solid_pen", brush="solid_brush"):
     """10,000 polygons of any of these numbers of corners, filled and stroked, each within an eighth of the frame's sides, by turns with each
     tool."""
     chance, side = random.Random(1), FRAME // 8
-    yield from pens_and_brushes(chance, "solid_pen", "solid_brush", form=form)
+    yield from pens_and_brushes(chance, pen, brush, form=form)
     for number in range(10_000):
         yield form.step("select", number % 16 * 2) + form.step("select", number % 16 * 2 + 1)
         corner = place_in(chance, 0, 0, FRAME - side)
@@ -78,10 +82,10 @@ def polylines(form, page):
         yield form.step("polyline", *on_page(near_places(chance, 100), page))
 
 
-def any_lines(form=WMF, page=FRAME, as_lists=False):
+def any_lines(form=WMF, page=FRAME, as_lists=False, pen="solid_pen"):
     """50,000 lines of any slope between any two places, by turns with each of sixteen pens, by moves or as lists of two points."""
     chance = random.Random(2)
-    yield from pens_and_brushes(chance, "solid_pen", form=form)
+    yield from pens_and_brushes(chance, pen, form=form)
     for number in range(50_000):
         if number % 64 == 0:
             yield form.step("select", number // 64 % 16)

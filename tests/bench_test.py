@@ -23,7 +23,7 @@ class Bench(unittest.TestCase):
 
     def test_each_subject_is_told(self):
         told = subprocess.run([ROOT / "bench" / "run", "--help"], capture_output=True, text=True, check=True).stdout
-        for subject in ("work", "exports", "wide-pens", "growth", "files", "shapes", "painting", "bitmaps", "paths", "machine", "records", "points", "certificates"):
+        for subject in ("work", "exports", "layers", "wide-pens", "growth", "files", "shapes", "painting", "bitmaps", "paths", "machine", "records", "points", "certificates"):
             self.assertIn(subject, told)
 
     def shown(self, files):

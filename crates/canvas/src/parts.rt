@@ -56,6 +56,20 @@ pub(crate) fn fill_with(part: &mut [Colour], splat: &Splat)
         put_few(part, splat);
         return;
     }
+    repeat_pairs(part, &splat.eight);
+    let last = part.len() - PERIOD;
+    copy_at(part, last, &splat.eight);
+}
+
+/// The same for the colours of a whole canvas. This loop is short, so that the compiler makes one of its own for a colour
+/// that it knows.
+pub(crate) fn fill_all(part: &mut [Colour], splat: &Splat)
+    ensures { EachIs (length part.old) part.new (λ k any. splat.now.colour) }
+{
+    if part.len() < PERIOD {
+        put_each(part, splat.colour);
+        return;
+    }
     repeat_whole(part, &splat.eight);
     let last = part.len() - PERIOD;
     copy_at(part, last, &splat.eight);
@@ -95,9 +109,24 @@ fn copy_half_at(part: &mut [Colour], at: usize, splat: &Splat)
     part[at..at + HALF].copy_from_slice(&splat.eight[..HALF]);
 }
 
-/// Fills the part with whole copies of the eight colours, two at a time, and returns how many colours were filled. The
-/// compiler knows their size, so this is faster than single colours or copies of other sizes.
+/// Fills the part with whole copies of the eight colours, and returns how many colours were filled. The compiler knows
+/// their size, so this is faster than single colours or copies of other sizes.
 fn repeat_whole(part: &mut [Colour], colours: &[Colour]) -> usize
+    requires { length colours.now ≡ 8 }
+    ensures within { result ≤ length part.old }
+    ensures all_but_few { length part.old < result + 8 }
+    ensures colours { EachIs result part.new (λ k any. slice_index_or colours.now (k % 8) any) }
+{
+    let mut filled = 0;
+    while filled + PERIOD <= part.len() {
+        copy_at(part, filled, colours);
+        filled += PERIOD;
+    }
+    filled
+}
+
+/// The same, two copies at a time.
+fn repeat_pairs(part: &mut [Colour], colours: &[Colour]) -> usize
     requires { length colours.now ≡ 8 }
     ensures within { result ≤ length part.old }
     ensures all_but_few { length part.old < result + 8 }
