@@ -16,9 +16,6 @@ use mapping::{Colour, Mix};
 /// The number of repeating colours.
 const PERIOD: usize = 8;
 
-/// Half as many.
-const HALF: usize = 4;
-
 /// Fills the part, whose first colour is in this column, with the stripes' colours, each at its column modulo 8, by
 /// copies of eight. The last copy is aligned to the end of the part.
 pub(crate) fn fill_with_stripes(part: &mut [Colour], column: u32, stripes: &Stripes)
@@ -53,21 +50,7 @@ pub(crate) fn fill_with(part: &mut [Colour], splat: &Splat)
     ensures { EachIs (length part.old) part.new (λ k any. splat.now.colour) }
 {
     if part.len() < PERIOD {
-        put_few(part, splat);
-        return;
-    }
-    repeat_pairs(part, &splat.eight);
-    let last = part.len() - PERIOD;
-    copy_at(part, last, &splat.eight);
-}
-
-/// The same for the colours of a whole canvas. This loop is short, so that the compiler makes one of its own for a colour
-/// that it knows.
-pub(crate) fn fill_all(part: &mut [Colour], splat: &Splat)
-    ensures { EachIs (length part.old) part.new (λ k any. splat.now.colour) }
-{
-    if part.len() < PERIOD {
-        put_each(part, splat.colour);
+        put_few(part, splat.colour);
         return;
     }
     repeat_whole(part, &splat.eight);
@@ -75,38 +58,13 @@ pub(crate) fn fill_all(part: &mut [Colour], splat: &Splat)
     copy_at(part, last, &splat.eight);
 }
 
-/// The same for fewer than eight colours. Four or more are two copies of four, because a loop whose length isn't
-/// predicted costs more.
-fn put_few(part: &mut [Colour], splat: &Splat)
-    requires { length part.old < 8 }
-    ensures { EachIs (length part.old) part.new (λ k any. splat.now.colour) }
-{
-    if part.len() < HALF {
-        put_each(part, splat.colour);
-        return;
-    }
-    let last = part.len() - HALF;
-    copy_half_at(part, 0, splat);
-    copy_half_at(part, last, splat);
-}
-
 /// Sets a few colours to this one.
-fn put_each(part: &mut [Colour], colour: Colour)
+fn put_few(part: &mut [Colour], colour: Colour)
     ensures { EachIs (length part.old) part.new (λ k any. colour) }
 {
     for k in 0..part.len() {
         part[k] = colour;
     }
-}
-
-/// Sets four colours, from this index of the part, to the splat's colour.
-fn copy_half_at(part: &mut [Colour], at: usize, splat: &Splat)
-    requires within { at + 4 ≤ length part.old }
-    ensures same { length part.new ≡ length part.old }
-    ensures before { (k : ℕ) (d : Colour) → k < at → slice_index_or part.new k d ≡ slice_index_or part.old k d }
-    ensures here { (k : ℕ) (d : Colour) → k < 4 → slice_index_or part.new (at + k) d ≡ splat.now.colour }
-{
-    part[at..at + HALF].copy_from_slice(&splat.eight[..HALF]);
 }
 
 /// Fills the part with whole copies of the eight colours, and returns how many colours were filled. The compiler knows
@@ -119,26 +77,6 @@ fn repeat_whole(part: &mut [Colour], colours: &[Colour]) -> usize
 {
     let mut filled = 0;
     while filled + PERIOD <= part.len() {
-        copy_at(part, filled, colours);
-        filled += PERIOD;
-    }
-    filled
-}
-
-/// The same, two copies at a time.
-fn repeat_pairs(part: &mut [Colour], colours: &[Colour]) -> usize
-    requires { length colours.now ≡ 8 }
-    ensures within { result ≤ length part.old }
-    ensures all_but_few { length part.old < result + 8 }
-    ensures colours { EachIs result part.new (λ k any. slice_index_or colours.now (k % 8) any) }
-{
-    let mut filled = 0;
-    while filled + 2 * PERIOD <= part.len() {
-        copy_at(part, filled, colours);
-        copy_at(part, filled + PERIOD, colours);
-        filled += 2 * PERIOD;
-    }
-    if filled + PERIOD <= part.len() {
         copy_at(part, filled, colours);
         filled += PERIOD;
     }

@@ -4,7 +4,7 @@ ghost use Rattle.std.specs.Prelude.{◌≡◌, ◌<◌, ℕ, IfOk, replicate, sl
 ghost use Rattle.mapping.specs.declared.geometry.Colour.{Colour};
 
 use crate::canvas_error::OutOfMemory;
-use crate::parts::fill_all;
+use crate::parts::fill_with;
 use mapping::Colour;
 use std::alloc::Global;
 
@@ -47,6 +47,6 @@ pub(crate) fn same_colours(
     if colour == Colour::WHITE {
         return Ok(colours);
     }
-    fill_all(&mut colours[..], &Splat::new(colour));
+    fill_with(&mut colours[..], &Splat::new(colour));
     Ok(colours)
 }

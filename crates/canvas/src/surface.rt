@@ -13,7 +13,7 @@ ghost use Rattle.canvas.specs.declared.canvas_error.ImageError.TheVariants.{BadI
 
 use crate::canvas_error::{ImageError, OutOfMemory, WriteFault};
 use crate::counting::FaultCount;
-use crate::parts::fill_all;
+use crate::parts::fill_with;
 use crate::ppm::{write_raster, write_text};
 use crate::ppm_counted::{write_raster_to, write_text_to};
 use crate::reading::{read_head, read_rows};
@@ -100,7 +100,7 @@ impl Canvas {
     {
         let count = area(rows, self.stride);
         let _ = self.colours.resize(count, colour);
-        fill_all(&mut self.colours[..], &Splat::new(colour));
+        fill_with(&mut self.colours[..], &Splat::new(colour));
         (self.first, self.rows) = (first, rows);
     }
 

@@ -5,7 +5,7 @@ use Rattle.canvas.proofs.splat.same_colours.Goals as goal
 
 pub returns : goal.returns
 returns c =
-    let part = c.fill_all.new.part in
+    let part = c.fill_with.new.part in
     let count = c.args.count in
     let all : c.in-Ok.colours.len ≡ count = c.in-Ok.ensures.len in
     let long : length part ≡ c.in-Ok.colours.len = search rules in

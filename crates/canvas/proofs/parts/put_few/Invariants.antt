@@ -1,6 +1,6 @@
 use Rattle.std.proofs.Common.{◌≡◌, ℕ, ◌<◌, get_or}
 use Rattle.mapping.specs.declared.geometry.Colour.{Colour}
-use Rattle.canvas.proofs.parts.put_each.Given as goal
+use Rattle.canvas.proofs.parts.put_few.Given as goal
 
 -- the colours so far are this one
 abbrev pub invariant-loop-k : goal.invariant-loop-k
