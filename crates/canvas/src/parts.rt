@@ -69,8 +69,7 @@ fn put_few(part: &mut [Colour], colour: Colour)
 
 /// Fills the part with whole copies of the eight colours, and returns how many colours were filled. The compiler knows
 /// their size, so this is faster than single colours or copies of other sizes.
-fn repeat_whole(part: &mut [Colour], colours: &[Colour]) -> usize
-    requires { length colours.now ≡ 8 }
+fn repeat_whole(part: &mut [Colour], colours: &[Colour; PERIOD]) -> usize
     ensures within { result ≤ length part.old }
     ensures all_but_few { length part.old < result + 8 }
     ensures colours { EachIs result part.new (λ k any. slice_index_or colours.now (k % 8) any) }
@@ -84,14 +83,23 @@ fn repeat_whole(part: &mut [Colour], colours: &[Colour]) -> usize
 }
 
 /// Copies the eight colours to this index of the part.
-fn copy_at(part: &mut [Colour], at: usize, colours: &[Colour])
-    requires eight { length colours.now ≡ 8 }
-    requires within { at + 8 ≤ length part.old }
+fn copy_at(part: &mut [Colour], at: usize, colours: &[Colour; PERIOD])
+    requires { at + 8 ≤ length part.old }
     ensures before { (k : ℕ) (d : Colour) → k < at → slice_index_or part.new k d ≡ slice_index_or part.old k d }
     ensures here { (k : ℕ) (d : Colour) → k < 8 → slice_index_or part.new (at + k) d ≡ slice_index_or colours.now k d }
     ensures after { (k : ℕ) (d : Colour) → at + 8 ≤ k → slice_index_or part.new k d ≡ slice_index_or part.old k d }
 {
-    part[at..at + PERIOD].copy_from_slice(colours);
+    put_eight(&mut part[at..at + PERIOD], colours);
+}
+
+/// Replaces eight colours. As an array they are copied by two moves, without a call.
+fn put_eight(part: &mut [Colour], colours: &[Colour; PERIOD])
+    requires { length part.old ≡ 8 }
+    ensures { part.new ≡ colours.now }
+{
+    if let Some(eight) = part.as_mut_array() {
+        *eight = *colours;
+    }
 }
 
 /// Changes each colour by the mix.

@@ -22,7 +22,9 @@ pub struct Splat {
 }
 
 impl Splat {
-    /// The swatch of a colour.
+    /// The splat of a colour. This isn't inlined: a compiler that sees the eight colours made would set each byte of a
+    /// span instead of copying them.
+    #[inline(never)]
     pub fn new(colour: Colour) -> Splat
         ensures { result.colour ≡ colour }
     {

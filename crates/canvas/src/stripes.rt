@@ -31,11 +31,10 @@ impl Stripes {
     }
 
     /// The eight colours from this column on.
-    pub(crate) fn eight_from(&self, column: usize) -> &[Colour]
+    pub(crate) fn eight_from(&self, column: usize) -> &[Colour; 8]
         requires { column < 8 }
-        ensures eight { length result.now ≡ 8 }
-        ensures colours { EachIs 8 result.now (λ k any. slice_index_or self.now.twice (column + k) any) }
+        ensures { EachIs 8 result.now (λ k any. slice_index_or self.now.twice (column + k) any) }
     {
-        &self.twice[column..column + 8]
+        self.twice[column..].first_chunk().unwrap()
     }
 }

@@ -3,6 +3,7 @@ use Rattle.std.proofs.Common.{◌≡◌, ℕ, ◌<◌, ◌≤◌, ℤ, pos, neg_
 use Rattle.std.specs.Prelude.{◌↔◌}
 use Rattle.std.proofs.lemmas.Int.{ints, by_lt_z}
 use Rattle.span_fill.specs.Strokes.{far, is_along}
+use Rattle.span_fill.proofs.HullLemmas.{LiesFromTo, along_lies, towards_lies}
 use Rattle.span_fill.proofs.Products.{mul_add, mul_comm_ℤ, mul_one, mul_order, neg_mul, mul_order_back, mul_sub, mul_twice, twice_mul}
 use Rattle.span_fill.proofs.StepLemmas.{IsNearest, along_parts, along_within, by_towards, dividend, far_up, far_down}
 
@@ -122,3 +123,22 @@ between_falling from to low high k z f t = (
   λ h. (by_lt_z z (pos low) (λ (g : z <ℤ pos low). let after = t.1 g in absurd (omega (arith, after, h.1))) (λ (g : pos low ≤ℤ z). g), f.0 h.0),
   λ h. (f.1 h.1, by_lt_z (pos k) (pos to) (λ (g : pos k <ℤ pos to). omega (arith, ints, g)) (λ (g : pos to ≤ℤ pos k). let under = t.0 (omega (arith, ints, g)) in absurd (omega (arith, ints, under, h.0)))),
 )
+
+-- the coordinates that a span contains are those from its first to its last
+lies_in : (from to : ℕ) (z : ℤ) → (pos from ≤ℤ z) × (z <ℤ pos to) → LiesFromTo (pos from) (pos to -ℤ pos 1) z
+lies_in from to z h = let last = h.1 in record { least = h.0; most = omega (arith, ints, last) }
+
+contained : (from to : ℕ) (z : ℤ) → LiesFromTo (pos from) (pos to -ℤ pos 1) z → (pos from ≤ℤ z) × (z <ℤ pos to)
+contained from to z h = let last = h.most in (h.least, omega (arith, ints, last))
+
+-- a span that contains both ends of a line contains its pixels, along the longer axis and along the shorter one
+pub along_contained : (u0 v0 u1 v1 u v : ℤ) (from to : ℕ) → is_along u0 v0 u1 v1 u v ≡ true →
+    ((pos from ≤ℤ u0) × (u0 <ℤ pos to)) × ((pos from ≤ℤ u1) × (u1 <ℤ pos to)) → (pos from ≤ℤ u) × (u <ℤ pos to)
+along_contained u0 v0 u1 v1 u v from to on ends =
+    let towards = (along_parts u0 v0 u1 v1 u v on).0 in
+    contained from to u (towards_lies (pos from) (pos to -ℤ pos 1) u0 u1 u (lies_in from to u0 ends.0) (lies_in from to u1 ends.1) towards)
+
+pub across_contained : (u0 v0 u1 v1 u v : ℤ) (from to : ℕ) → is_along u0 v0 u1 v1 u v ≡ true →
+    ((pos from ≤ℤ v0) × (v0 <ℤ pos to)) × ((pos from ≤ℤ v1) × (v1 <ℤ pos to)) → (pos from ≤ℤ v) × (v <ℤ pos to)
+across_contained u0 v0 u1 v1 u v from to on ends =
+    contained from to v (along_lies (pos from) (pos to -ℤ pos 1) u0 v0 u1 v1 u v (lies_in from to v0 ends.0) (lies_in from to v1 ends.1) on)

@@ -24,12 +24,9 @@ fraction_below steps walk position fixed can few =
     let rest = can.rest in
     below_one fixed.part walk.full (omega (arith, slack, high, rest))
 
--- what a walk is after a step
-abbrev kept_walk : Walk → Walk
-kept_walk walk = record { u = ahead walk.forwards walk.u 1; v = walk.v +ℤ walk.back; rest = walk.rest + walk.more; more = walk.more; full = walk.full; back = walk.back; forwards = walk.forwards }
-
-abbrev carried_walk : Walk → Walk
-carried_walk walk = record { u = ahead walk.forwards walk.u 1; v = walk.v +ℤ walk.back +ℤ pos 1; rest = walk.rest + walk.more - walk.full; more = walk.more; full = walk.full; back = walk.back; forwards = walk.forwards }
+-- the walk after a step that leads to this coordinate on the minor axis and to this remainder
+abbrev next_walk : Walk → ℤ → ℕ → Walk
+next_walk walk v rest = record { u = ahead walk.forwards walk.u 1; v = v; rest = rest; more = walk.more; full = walk.full; back = walk.back; forwards = walk.forwards }
 
 -- the walk after a step, of which a position is the one in fixed point
 pub record HasNext (steps : ℕ) (walk : Walk) (position : FixedWalk) : Type 0 where
@@ -64,7 +61,7 @@ module _ (steps : ℕ) (walk : Walk) (old new : FixedWalk) (fixed : IsFixed step
       let sum = sum_times in
       let times = more_times in
       record {
-        next = kept_walk walk;
+        next = next_walk walk (walk.v +ℤ walk.back) (walk.rest + walk.more);
         moved = record {
           same = record { more = refl; full = refl; back = refl; forwards = refl };
           u = refl;
@@ -108,7 +105,7 @@ module _ (steps : ℕ) (walk : Walk) (old new : FixedWalk) (fixed : IsFixed step
       let less = ap (λ (n : ℕ). n * walk.full) whole ∙ add-mul (fixed.part + fixed.gain - 2 ^ 48) (2 ^ 48) walk.full in
       let at = next_at in
       record {
-        next = carried_walk walk;
+        next = next_walk walk (walk.v +ℤ walk.back +ℤ pos 1) (walk.rest + walk.more - walk.full);
         moved = record {
           same = record { more = refl; full = refl; back = refl; forwards = refl };
           u = refl;

@@ -2,7 +2,7 @@
 use Rattle.std.proofs.Common.{◌≡◌, ℤ, pos, neg_ℤ, ◌+ℤ◌, ◌-ℤ◌, ◌*ℤ◌, ◌≤ℤ◌, ◌<ℤ◌, true, arith, ap, ◌∙◌}
 use Rattle.std.specs.Prelude.{◌↔◌}
 use Rattle.std.proofs.Math.IntN.{*ℤ-zero}
-use Rattle.std.proofs.lemmas.Int.{ints}
+use Rattle.std.proofs.lemmas.Int.{ints, by_lt_z}
 use Rattle.span_fill.specs.Strokes.{far, is_along, is_towards}
 use Rattle.span_fill.proofs.Products.{mul_neg, mul_not_negative, mul_order, mul_order_back, order_mul}
 use Rattle.span_fill.proofs.StepLemmas.{along_parts, along_within, by_towards, towards_down, towards_up}
@@ -55,3 +55,30 @@ fall_hull u0 v0 u1 v1 u v on falls =
     let greatest = mul_order_back (pos (far u0 u1)) (v -ℤ v0) (pos 0) some (omega (arith, ints, low, fallen, some, *ℤ-zero (pos (far u0 u1)), *ℤ-zero (pos (far u0 u)))) in
     let least = mul_order_back (pos (far u0 u1)) (v1 -ℤ v0) (v -ℤ v0) some (omega (arith, ints, high, deepest, step_sign, whole_sign, some)) in
     (omega (arith, ints, least), omega (arith, ints, greatest))
+
+-- a coordinate lies from one to another
+pub record LiesFromTo (low high u : ℤ) : Type 0 where
+  pub least : low ≤ℤ u
+  pub most : u ≤ℤ high
+
+-- on the way from one coordinate to another
+pub towards_lies : (low high a b u : ℤ) → LiesFromTo low high a → LiesFromTo low high b → is_towards a b u ≡ true → LiesFromTo low high u
+towards_lies low high a b u from to t =
+    let c = from.least in let d = from.most in let e = to.least in let f = to.most in
+    by_towards a b u t
+    (λ h k. record { least = omega (arith, ints, c, h); most = omega (arith, ints, f, k) })
+    (λ h k. record { least = omega (arith, ints, e, h); most = omega (arith, ints, d, k) })
+
+-- and along the shorter axis
+pub along_lies : (low high u0 v0 u1 v1 u v : ℤ) → LiesFromTo low high v0 → LiesFromTo low high v1 → is_along u0 v0 u1 v1 u v ≡ true → LiesFromTo low high v
+along_lies low high u0 v0 u1 v1 u v from to on =
+    let c = from.least in let d = from.most in let e = to.least in let f = to.most in
+    by_lt_z v1 v0
+    (λ (falls : v1 <ℤ v0).
+    let hull = fall_hull u0 v0 u1 v1 u v on (omega (arith, ints, falls)) in
+    let least = hull.0 in let greatest = hull.1 in
+    record { least = omega (arith, ints, e, least); most = omega (arith, ints, d, greatest) })
+    (λ (rises : v0 ≤ℤ v1).
+    let hull = rise_hull u0 v0 u1 v1 u v on rises in
+    let least = hull.0 in let greatest = hull.1 in
+    record { least = omega (arith, ints, c, least); most = omega (arith, ints, f, greatest) })

@@ -29,6 +29,7 @@ pub mod WindingLemmas
 pub mod TableLemmas
 mod WorkedFills
 mod WorkedNibs
+mod WorkedNumbers
 pub mod InsertionLemmas
 pub mod JoiningLemmas
 pub mod StrokingLemmas

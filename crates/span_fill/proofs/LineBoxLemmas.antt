@@ -7,47 +7,20 @@ use Rattle.std.proofs.lemmas.List.Elements.{All-head, All-tail, All-weaker}
 use Rattle.mapping.specs.declared.geometry.Point.{Point}
 use Rattle.mapping.specs.declared.geometry.Rect.{Rect}
 use Rattle.span_fill.specs.Fill.{crossed_downwards, crossed_upwards, crossing_dividend, down, has_row, in_fill, is_crossed, is_inside}
-use Rattle.span_fill.specs.Strokes.{in_stroke, is_along, is_y_major, is_towards, on_line}
+use Rattle.span_fill.specs.Strokes.{in_stroke, is_y_major, on_line}
 use Rattle.span_fill.specs.declared.fill_rule.FillRule.{FillRule}
 use Rattle.span_fill.specs.declared.fill_rule.FillRule.TheVariants.{EvenOdd, NonZero}
 use Rattle.span_fill.specs.declared.line.Line.{Line}
-use Rattle.span_fill.proofs.HullLemmas.{fall_hull, rise_hull}
+use Rattle.span_fill.proofs.HullLemmas.{LiesFromTo, along_lies, towards_lies}
 use Rattle.span_fill.specs.RowLaws.{LiesBetween}
 use Rattle.span_fill.proofs.RowLawLemmas.{row_law}
 use Rattle.span_fill.proofs.LineLaw.{by_axis, on_x_major, on_y_major}
 use Rattle.span_fill.proofs.Products.{mul_add, mul_comm_ℤ, mul_one, mul_order, mul_sub, mul_twice, sub_mul, twice_mul}
-use Rattle.span_fill.proofs.StepLemmas.{along_parts, by_towards}
+use Rattle.span_fill.proofs.StepLemmas.{along_parts}
 use Rattle.mapping.specs.Boxes.{HasPoint}
 use Rattle.mapping.specs.PixelBoxes.{BoxHasPixel}
 use Rattle.mapping.specs.TestLaws.{int_le-from, int_le-true, int_lt-true, by_either, by_test}
 use Rattle.span_fill.specs.LineBoxes.{HasLine, IsBalanced, LineBoxLaws, met_downwards, met_upwards}
-
--- a coordinate lies from one to another
-record LiesFromTo (low high u : ℤ) : Type 0 where
-  least : low ≤ℤ u
-  most : u ≤ℤ high
-
--- on the way from one coordinate to another
-towards_lies : (low high a b u : ℤ) → LiesFromTo low high a → LiesFromTo low high b → is_towards a b u ≡ true → LiesFromTo low high u
-towards_lies low high a b u from to t =
-    let c = from.least in let d = from.most in let e = to.least in let f = to.most in
-    by_towards a b u t
-    (λ h k. record { least = omega (arith, ints, c, h); most = omega (arith, ints, f, k) })
-    (λ h k. record { least = omega (arith, ints, e, h); most = omega (arith, ints, d, k) })
-
--- and along the shorter axis
-along_lies : (low high u0 v0 u1 v1 u v : ℤ) → LiesFromTo low high v0 → LiesFromTo low high v1 → is_along u0 v0 u1 v1 u v ≡ true → LiesFromTo low high v
-along_lies low high u0 v0 u1 v1 u v from to on =
-    let c = from.least in let d = from.most in let e = to.least in let f = to.most in
-    by_lt_z v1 v0
-    (λ (falls : v1 <ℤ v0).
-    let hull = fall_hull u0 v0 u1 v1 u v on (omega (arith, ints, falls)) in
-    let least = hull.0 in let greatest = hull.1 in
-    record { least = omega (arith, ints, e, least); most = omega (arith, ints, d, greatest) })
-    (λ (rises : v0 ≤ℤ v1).
-    let hull = rise_hull u0 v0 u1 v1 u v on rises in
-    let least = hull.0 in let greatest = hull.1 in
-    record { least = omega (arith, ints, c, least); most = omega (arith, ints, f, greatest) })
 
 in_columns : (box : Rect) (point : Point) → HasPoint box point → LiesFromTo box.l box.r point.x
 in_columns box point h = record { least = h.left; most = h.right }

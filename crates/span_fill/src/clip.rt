@@ -1,6 +1,6 @@
 //! The steps of a line that lie within a region.
 
-ghost use Rattle.std.specs.Prelude.{◌≡◌, ℕ, ◌+◌, ◌*◌, ◌^◌, ◌<◌, ◌≤◌, ◌↔◌, ℤ, pos, negsuc, neg_ℤ, ◌+ℤ◌, ◌-ℤ◌, ◌*ℤ◌, ◌≤ℤ◌, ◌<ℤ◌};
+ghost use Rattle.std.specs.Prelude.{◌≡◌, ℕ, ◌+◌, ◌*◌, ◌^◌, ◌<◌, ◌≤◌, ◌↔◌, ℤ, IsTrue, pos, negsuc, neg_ℤ, ◌+ℤ◌, ◌-ℤ◌, ◌*ℤ◌, ◌≤ℤ◌, ◌<ℤ◌};
 ghost use Rattle.span_fill.specs.Clips.{SpanHas, IsIn};
 ghost use Rattle.span_fill.specs.MajorLines.{AreStepsWithin, IsMajorLine, IsPixelOf, length_of, rise_of, major_step};
 
@@ -9,7 +9,8 @@ use crate::major_line::MajorLine;
 use crate::product::product;
 use crate::span::Span;
 
-/// The steps of a line whose coordinates lie within `u` on the major axis and within `v` on the minor one.
+/// The steps of a line whose coordinates lie within `u` on the major axis and within `v` on the minor one. If both ends
+/// of the line lie within them, all steps do.
 pub(crate) fn clipped(major: MajorLine, u: Span, v: Span) -> Span
     requires major { IsMajorLine major }
     requires u { u.to ≤ 8192 }
@@ -17,10 +18,31 @@ pub(crate) fn clipped(major: MajorLine, u: Span, v: Span) -> Span
     ensures exact { AreStepsWithin major u v result }
     ensures bound { result.to ≤ length_of major }
 {
-    common(
-        steps_along(major, ordered(u)),
-        steps_across(major, ordered(v)),
-    )
+    if contains_both(u, major.from_u, major.to_u) && contains_both(v, major.from_v, major.to_v) {
+        return Span {
+            from: 0,
+            to: major.length(),
+        };
+    }
+    let along = steps_along(major, ordered(u));
+    if along.to <= along.from {
+        return along;
+    }
+    common(along, steps_across(major, ordered(v)))
+}
+
+/// Whether a span contains both coordinates.
+fn contains_both(span: Span, first: i32, last: i32) -> bool
+    ensures { IsTrue result ↔ (SpanHas span first × SpanHas span last) }
+{
+    contains(span, first) && contains(span, last)
+}
+
+/// Whether a span contains a coordinate.
+fn contains(span: Span, at: i32) -> bool
+    ensures { IsTrue result ↔ SpanHas span at }
+{
+    i64::from(span.from) <= i64::from(at) && i64::from(at) < i64::from(span.to)
 }
 
 /// The same span, with its ends in order.

@@ -25,11 +25,11 @@ const MAX_SHORT: u64 = 1 << 15;
 /// less than 2^-48 too much. Within 8,192 steps this changes no whole number, because the walk's divisor is below 2^31.
 #[derive(Clone, Copy, Debug, Default)]
 pub(crate) struct FixedWalk {
-    pub(crate) u: i32,
     /// The coordinate on the minor axis, times 2^48.
     pub(crate) at: i64,
     /// What a step adds to it.
     pub(crate) each: i64,
+    pub(crate) u: i32,
     /// Whether `u` grows.
     pub(crate) forwards: bool,
 }
@@ -41,9 +41,9 @@ impl FixedWalk {
         ensures { IsFixed 1 walk result }
     {
         FixedWalk {
-            u: walk.u,
             at: fixed(walk.v, fraction(walk.rest, walk.full)),
             each: fixed(walk.back, fraction(walk.more, walk.full)),
+            u: walk.u,
             forwards: walk.forwards,
         }
     }
@@ -71,9 +71,9 @@ impl FixedWalk {
         ensures forwards { result.forwards ≡ self.forwards }
     {
         FixedWalk {
-            u: moved(self.u, self.forwards),
             at: self.at + self.each,
             each: self.each,
+            u: moved(self.u, self.forwards),
             forwards: self.forwards,
         }
     }

@@ -30,9 +30,9 @@ pub struct LineSteps {
     position: FixedWalk,
     /// The number on the grid of the pixel at that position.
     numbering: Numbering,
-    y_major: bool,
     next: u32,
     end: u32,
+    y_major: bool,
 }
 
 impl Model for LineSteps {
@@ -89,9 +89,9 @@ impl LineSteps {
             grid,
             position,
             numbering: numbered_within(grid, clip, position, y_major),
-            y_major,
             next: clip.from,
             end: clip.to,
+            y_major,
         }
     }
 

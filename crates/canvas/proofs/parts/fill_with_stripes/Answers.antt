@@ -20,7 +20,7 @@ returns c =
           let e : (column + k % 8) % 8 ≡ (column + k) % 8 = omega arith in
           c.copy_at.ensures.before k d (omega (arith, before))
           ∙ c.repeat_whole-last.ensures.colours k d (omega (arith, before, near, long, same))
-          ∙ c.eight_from.ensures.colours (k % 8) d (omega arith)
+          ∙ c.eight_from.ensures (k % 8) d (omega arith)
           ∙ stripe_at twice stripes.same column (k % 8) c.rotated.result d (omega (arith, first)) (omega arith)
           ∙ ap (λ (i : ℕ). get_or twice i d) e
       | inr after ↦
@@ -28,7 +28,7 @@ returns c =
           let e : (column + last + (k - last)) % 8 ≡ (column + k) % 8 = omega (arith, after) in
           ap (λ (i : ℕ). get_or c.copy_at.new.part i d) (sym at)
           ∙ c.copy_at.ensures.here (k - last) d (omega (arith, after, h, long, same))
-          ∙ c.eight_from-2.ensures.colours (k - last) d (omega (arith, after, h, long, same))
+          ∙ c.eight_from-2.ensures (k - last) d (omega (arith, after, h, long, same))
           ∙ stripe_at twice stripes.same (column + last) (k - last) c.rotated-2.result d (omega (arith, turned)) (omega (arith, after, h, long, same))
           ∙ ap (λ (i : ℕ). get_or twice i d) e
     ]
