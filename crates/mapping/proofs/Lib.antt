@@ -15,3 +15,5 @@ pub mod MetLemmas
 pub mod FitLemmas
 pub mod WideCellLemmas
 pub mod NibLemmas
+pub mod PartLemmas
+pub mod WorkedParts

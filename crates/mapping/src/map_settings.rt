@@ -124,6 +124,7 @@ impl PageAxis {
         ensures { axis_numbers result ≡ with_window origin extent (axis_numbers self) }
     {
         PageAxis {
+            parts: self.parts,
             window_origin: origin,
             window_extent: extent,
             viewport_origin: self.viewport_origin,
@@ -137,6 +138,7 @@ impl PageAxis {
         ensures { axis_numbers result ≡ with_viewport origin extent (axis_numbers self) }
     {
         PageAxis {
+            parts: self.parts,
             window_origin: self.window_origin,
             window_extent: self.window_extent,
             viewport_origin: origin,
@@ -150,6 +152,7 @@ impl PageAxis {
         ensures { axis_numbers result ≡ with_unit_extents (axis_numbers self) }
     {
         PageAxis {
+            parts: self.parts,
             window_origin: self.window_origin,
             window_extent: 1,
             viewport_origin: self.viewport_origin,

@@ -2,6 +2,7 @@
 
 ghost use Rattle.std.specs.Prelude.{◌≡◌, ◌≤◌, ◌≤ℤ◌, ◌*◌, ◌/◌, pos, max, unsigned_abs, is_some, SomeIff, IsTrue, ◌↔◌};
 ghost use Rattle.mapping.specs.Nibs.{IsNib, IsNibSide, NibLaws, is_nib, is_nib_side, nib_of, nib_side, reach_after, reach_before};
+ghost use Rattle.mapping.specs.Limits.{surface_side_limit};
 ghost use Rattle.mapping.specs.PageMap.{axis_numbers, map_numbers};
 ghost use Rattle.mapping.specs.PlaceOf.{surface_of};
 
@@ -57,18 +58,28 @@ impl PageAxis {
     /// The width or height in pixels of the nib of a pen of this width. `None` if it exceeds 4,096. If the extents on
     /// the axis have the same length, the map doesn't scale, and the only divisor is that of the frame.
     fn nib_side(&self, width: u32, surface_side: u32, frame_side: Divisor) -> Option<u16>
+        requires { surface_side ≤ surface_side_limit }
         ensures side { let side = nib_side width (axis_numbers self.now) surface_side frame_side.number in SomeIff result (IsNibSide side) side }
         ensures test { is_some result ≡ is_nib_side (nib_side width (axis_numbers self.now) surface_side frame_side.number) }
     {
         let (viewport, window) = (self.viewport_length(), self.window_length());
+        let fine_side = self.side_in_parts(surface_side);
         if viewport == window {
-            return unscaled_side(times(width, surface_side), frame_side);
+            return unscaled_side(times(width, fine_side), frame_side);
         }
         allowed_side(scaled(
             times(width, viewport),
-            surface_side,
+            fine_side,
             times(window, frame_side.number),
         ))
+    }
+
+    /// A surface's width or height, times the parts of a unit.
+    fn side_in_parts(&self, surface_side: u32) -> u32
+        requires { surface_side ≤ surface_side_limit }
+        ensures { result ≡ self.now.parts * surface_side }
+    {
+        self.parts * surface_side
     }
 
     /// The length of the viewport's extent, in either direction.

@@ -1,7 +1,6 @@
 //! Page maps: where page coordinates land on the plane.
 
-ghost use Rattle.std.specs.Prelude.{◌≡◌, ◌≢◌, ◌^◌, ◌<◌, ◌≤◌, pos, ◌+ℤ◌, ◌-ℤ◌, ◌*ℤ◌, unsigned_abs, SomeIff, is_some};
-ghost use Rattle.mapping.specs.Floor.{floor_div};
+ghost use Rattle.std.specs.Prelude.{◌≡◌, ◌≢◌, ◌^◌, ◌<◌, ◌≤◌, pos, ◌+ℤ◌, ◌-ℤ◌, ◌*ℤ◌, unsigned_abs, IfSome, SomeIff, is_some};
 ghost use Rattle.mapping.specs.Limits.{is_within, plane_limit};
 ghost use Rattle.mapping.specs.Plane.{IsPlaneCoordinate};
 
@@ -16,8 +15,11 @@ use crate::map_mode::MapMode;
 /// # Guarantees
 ///
 /// - The window's extent isn't 0, so coordinates can be scaled by it.
+/// - A unit has from 1 to 4,096 parts.
 #[derive(Clone, Copy, Debug, PartialEq, Eq)]
 pub struct PageAxis {
+    /// How many parts of the plane a unit of the device has.
+    pub parts: u32,
     pub window_origin: i32,
     pub window_extent: i32,
     pub viewport_origin: i32,
@@ -25,10 +27,12 @@ pub struct PageAxis {
     /// The frame's corner, which is the origin of the plane.
     pub corner: i32,
     pub ghost window_has_extent: { window_extent ≢ pos 0 },
+    pub ghost some_parts: { 1 ≤ parts },
+    pub ghost few_parts: { parts ≤ 4096 },
 }
 
 impl PageAxis {
-    ghost use Rattle.mapping.specs.PageMap.{axis_coordinate, axis_numbers, placeable_axis, unscaled_axis};
+    ghost use Rattle.mapping.specs.PageMap.{axis_coordinate, axis_in_parts, axis_numbers, placeable_axis, scaled_distance, unscaled_axis};
 
     /// An initial axis of a placeable file: the box's width or height is the window, and the frame's is the viewport.
     fn placeable(origin: i32, extent: i32) -> PageAxis
@@ -37,6 +41,7 @@ impl PageAxis {
         ensures { axis_numbers result ≡ placeable_axis origin extent }
     {
         PageAxis {
+            parts: 1,
             window_origin: origin,
             window_extent: extent,
             viewport_origin: 0,
@@ -50,11 +55,28 @@ impl PageAxis {
         ensures { axis_numbers result ≡ unscaled_axis corner }
     {
         PageAxis {
+            parts: 1,
             window_origin: 0,
             window_extent: 1,
             viewport_origin: 0,
             viewport_extent: 1,
             corner,
+        }
+    }
+
+    /// The same axis with so many parts a unit.
+    fn in_parts(self, parts: u32) -> PageAxis
+        requires some { 1 ≤ parts }
+        requires few { parts ≤ 4096 }
+        ensures { axis_numbers result ≡ axis_in_parts parts (axis_numbers self) }
+    {
+        PageAxis {
+            parts,
+            window_origin: self.window_origin,
+            window_extent: self.window_extent,
+            viewport_origin: self.viewport_origin,
+            viewport_extent: self.viewport_extent,
+            corner: self.corner,
         }
     }
 
@@ -67,7 +89,7 @@ impl PageAxis {
     {
         if self.viewport_extent == self.window_extent {
             if let Ok(near) = i32::try_from(coordinate) {
-                return on_plane(distance(near, self.window_origin), self.shift());
+                return on_plane(self.distance(near), self.shift());
             }
         }
         self.scaled_plane(coordinate)
@@ -79,13 +101,17 @@ impl PageAxis {
         ensures value { let v = axis_coordinate self.now coordinate in SomeIff result (IsPlaneCoordinate v) v }
         ensures test { is_some result ≡ is_within plane_limit (axis_coordinate self.now coordinate) }
     {
-        match i32::try_from(coordinate) {
-            Ok(coordinate) => on_plane(self.scaled(coordinate), self.shift()),
-            Err(_) => self.wide_plane(coordinate),
+        let Ok(near) = i32::try_from(coordinate) else {
+            return self.wide_plane(coordinate);
+        };
+        match self.scaled(near) {
+            Some(scaled) => on_plane(scaled, self.shift()),
+            None => self.wide_plane(coordinate),
         }
     }
 
-    /// The same for a coordinate that may have more than 32 bits, such as the far corner of a blit.
+    /// The same for a coordinate that may have more than 32 bits, such as the far corner of a blit, or whose product may
+    /// have more than 64.
     fn wide_plane(&self, coordinate: i64) -> Option<i32>
         ensures value { let v = axis_coordinate self.now coordinate in SomeIff result (IsPlaneCoordinate v) v }
         ensures test { is_some result ≡ is_within plane_limit (axis_coordinate self.now coordinate) }
@@ -98,38 +124,69 @@ impl PageAxis {
         requires { IsPlaneCoordinate (axis_coordinate self.now coordinate) }
         ensures { result ≡ axis_coordinate self.now coordinate }
     {
-        plane_number(self.scaled(coordinate), self.shift())
+        match self.scaled(coordinate) {
+            Some(scaled) => plane_number(scaled, self.shift()),
+            None => self.wide_at(coordinate),
+        }
     }
 
-    /// The distance of a coordinate from the window's origin, scaled from the window's extent to the viewport's and
-    /// rounded down, for a coordinate of 32 bits. If both extents are the same, as initially in every file that isn't
-    /// mirrored, nothing is scaled or divided.
-    fn scaled(&self, coordinate: i32) -> i64
-        ensures { result ≡ floor_div ((coordinate -ℤ self.now.window_origin) *ℤ self.now.viewport_extent) self.now.window_extent }
+    /// The same, computed in 128 bits.
+    fn wide_at(&self, coordinate: i32) -> i32
+        requires { IsPlaneCoordinate (axis_coordinate self.now coordinate) }
+        ensures { result ≡ axis_coordinate self.now coordinate }
     {
-        let distance = distance(coordinate, self.window_origin);
-        if self.viewport_extent == self.window_extent {
-            return distance;
+        match self.wide_plane(i64::from(coordinate)) {
+            Some(there) => there,
+            None => unreachable!(),
         }
-        let product = product(distance, i64::from(self.viewport_extent));
-        floor_quotient(product, i64::from(self.window_extent))
+    }
+
+    /// The distance of a coordinate from the window's origin, scaled from the window's extent to the viewport's, counted
+    /// in parts and rounded down, for a coordinate of 32 bits. `None` if the product would exceed 64 bits. If both
+    /// extents are the same, as initially in every file that isn't mirrored, nothing is divided.
+    fn scaled(&self, coordinate: i32) -> Option<i64>
+        ensures { IfSome result (λ there. there ≡ scaled_distance self.now coordinate) }
+    {
+        let distance = self.distance(coordinate);
+        if self.viewport_extent == self.window_extent {
+            return Some(distance);
+        }
+        let product = product(distance, self.viewport_extent)?;
+        Some(floor_quotient(product, i64::from(self.window_extent)))
     }
 
     /// The same for a coordinate that may have more than 32 bits, computed in 128 bits.
     fn wide_scaled(&self, coordinate: i64) -> i128
-        ensures { result ≡ floor_div ((coordinate -ℤ self.now.window_origin) *ℤ self.now.viewport_extent) self.now.window_extent }
+        ensures { result ≡ scaled_distance self.now coordinate }
     {
-        let distance = wide_distance(coordinate, self.window_origin);
+        let distance = wide_in_parts(
+            wide_distance(coordinate, self.window_origin),
+            i128::from(self.parts),
+        );
         let product = wide_product(distance, i128::from(self.viewport_extent));
         wide_floor_quotient(product, i128::from(self.window_extent))
     }
 
-    /// The shift after scaling: the viewport's origin, relative to the frame's corner.
-    fn shift(&self) -> i64
-        ensures value { result ≡ self.now.viewport_origin -ℤ self.now.corner }
-        ensures bound { unsigned_abs result < 2 ^ 32 }
+    /// The distance of a coordinate from the window's origin, in parts.
+    fn distance(&self, coordinate: i32) -> i64
+        ensures value { result ≡ (coordinate -ℤ self.now.window_origin) *ℤ pos self.now.parts }
+        ensures bound { unsigned_abs result < 2 ^ 44 }
     {
-        i64::from(self.viewport_origin) - i64::from(self.corner)
+        in_parts(
+            distance(coordinate, self.window_origin),
+            i64::from(self.parts),
+        )
+    }
+
+    /// The shift after scaling, in parts: the viewport's origin, relative to the frame's corner.
+    fn shift(&self) -> i64
+        ensures value { result ≡ (self.now.viewport_origin -ℤ self.now.corner) *ℤ pos self.now.parts }
+        ensures bound { unsigned_abs result < 2 ^ 44 }
+    {
+        in_parts(
+            distance(self.viewport_origin, self.corner),
+            i64::from(self.parts),
+        )
     }
 }
 
@@ -141,14 +198,36 @@ fn distance(coordinate: i32, origin: i32) -> i64
     i64::from(coordinate) - i64::from(origin)
 }
 
-/// A distance on the page times a viewport's extent.
-fn product(distance: i64, extent: i64) -> i64
+/// A distance in parts.
+fn in_parts(distance: i64, parts: i64) -> i64
     requires distance_fits { unsigned_abs distance < 2 ^ 32 }
-    requires extent_fits { unsigned_abs extent ≤ 2 ^ 31 }
-    ensures value { result ≡ distance *ℤ extent }
-    ensures bound { unsigned_abs result < 2 ^ 63 }
+    requires parts_fit { unsigned_abs parts ≤ 2 ^ 12 }
+    ensures value { result ≡ distance *ℤ parts }
+    ensures bound { unsigned_abs result < 2 ^ 44 }
 {
-    distance * extent
+    distance * parts
+}
+
+/// A distance times a viewport's extent. `None` if the product doesn't fit 64 bits, or couldn't be negated in them.
+fn product(distance: i64, extent: i32) -> Option<i64>
+    ensures value { IfSome result (λ product. product ≡ distance *ℤ extent) }
+    ensures bound { IfSome result (λ product. unsigned_abs product < 2 ^ 63) }
+{
+    let product = distance.checked_mul(i64::from(extent))?;
+    if product == i64::MIN {
+        return None;
+    }
+    Some(product)
+}
+
+/// A distance of more than 64 bits, in parts.
+fn wide_in_parts(distance: i128, parts: i128) -> i128
+    requires distance_fits { unsigned_abs distance ≤ 2 ^ 65 }
+    requires parts_fit { unsigned_abs parts ≤ 2 ^ 12 }
+    ensures value { result ≡ distance *ℤ parts }
+    ensures bound { unsigned_abs result ≤ 2 ^ 77 }
+{
+    distance * parts
 }
 
 /// The distance of a page coordinate of more than 32 bits from the window's origin.
@@ -161,10 +240,10 @@ fn wide_distance(coordinate: i64, origin: i32) -> i128
 
 /// Such a distance times a viewport's extent.
 fn wide_product(distance: i128, extent: i128) -> i128
-    requires distance_fits { unsigned_abs distance ≤ 2 ^ 65 }
+    requires distance_fits { unsigned_abs distance ≤ 2 ^ 77 }
     requires extent_fits { unsigned_abs extent ≤ 2 ^ 31 }
     ensures value { result ≡ distance *ℤ extent }
-    ensures bound { unsigned_abs result ≤ 2 ^ 96 }
+    ensures bound { unsigned_abs result ≤ 2 ^ 108 }
 {
     distance * extent
 }
@@ -195,7 +274,7 @@ fn on_plane(scaled: i64, shift: i64) -> Option<i32>
 /// The same for a distance that may have more than 64 bits, and then lies outside the plane.
 #[tactic(auto, unfolding(crate::specs::Limits::plane_limit))]
 fn wide_on_plane(scaled: i128, shift: i64) -> Option<i32>
-    requires { unsigned_abs shift < 2 ^ 32 }
+    requires { unsigned_abs shift < 2 ^ 44 }
     ensures value { SomeIff result (IsPlaneCoordinate (scaled +ℤ shift)) (scaled +ℤ shift) }
     ensures test { is_some result ≡ is_within plane_limit (scaled +ℤ shift) }
 {
@@ -213,7 +292,7 @@ pub struct PageMap {
 
 impl PageMap {
     ghost use Rattle.mapping.specs.Plane.{IsOnPlane, is_on_plane, plane_point};
-    ghost use Rattle.mapping.specs.PageMap.{map_numbers, placeable_map, plain_map, unscaled_map};
+    ghost use Rattle.mapping.specs.PageMap.{map_in_parts, map_numbers, placeable_map, plain_map, unscaled_map};
 
     /// The initial map of a placeable file ([MS-WMF] 2.3.2.3) whose box has this corner and this size. A negative size
     /// means that the right or the bottom comes first.
@@ -252,6 +331,19 @@ impl PageMap {
             mode: MapMode::Text,
             x: PageAxis::unscaled(corner.x),
             y: PageAxis::unscaled(corner.y),
+        }
+    }
+
+    /// The same map with so many parts a unit.
+    pub fn in_parts(self, parts: u32) -> PageMap
+        requires some { 1 ≤ parts }
+        requires few { parts ≤ 4096 }
+        ensures { map_numbers result ≡ map_in_parts parts (map_numbers self) }
+    {
+        PageMap {
+            mode: self.mode,
+            x: self.x.in_parts(parts),
+            y: self.y.in_parts(parts),
         }
     }
 

@@ -14,6 +14,13 @@ there c =
     let scaled = simp to_z-of_z at c.wide_scaled.ensures in
     scaled_and_moved (axis_numbers axis) c.args.coordinate c.wide_scaled.result c.shift.result scaled c.shift.ensures.value
 
+pub returns-clause-test : goal.returns-clause-test
+returns-clause-test c =
+    let scaled_fits : FitsSigned w128 c.wide_scaled.result = search rules in
+    let shift_fits : FitsSigned w64 c.shift.result = search rules in
+    let test = simp to_z-of_z at c.wide_on_plane.ensures.test in
+    rw (sym (there c)) test
+
 pub returns-clause-value : goal.returns-clause-value
 returns-clause-value c =
     let scaled_fits : FitsSigned w128 c.wide_scaled.result = search rules in
