@@ -55,7 +55,7 @@ times_one m = omega (arith, ints)
 regrouped : (q v k : ℤ) → q +ℤ (v -ℤ k) ≡ q +ℤ v -ℤ k
 regrouped q v k = omega (arith, ints)
 
-one_part : (n : AxisNumbers) (v : ℤ) → n.parts ≡ 1 → plane_coordinate n v ≡ floor_div ((v -ℤ n.window_origin) *ℤ n.viewport_extent) n.window_extent +ℤ n.viewport_origin -ℤ n.corner
+pub one_part : (n : AxisNumbers) (v : ℤ) → n.parts ≡ 1 → plane_coordinate n v ≡ floor_div ((v -ℤ n.window_origin) *ℤ n.viewport_extent) n.window_extent +ℤ n.viewport_origin -ℤ n.corner
 one_part n v one =
     let away = v -ℤ n.window_origin in
     let shift = n.viewport_origin -ℤ n.corner in

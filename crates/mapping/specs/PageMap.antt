@@ -4,13 +4,14 @@ use Rattle.mapping.specs.Floor.{floor_div}
 use Rattle.mapping.specs.Plane.{AxisNumbers, MapNumbers, plane_coordinate}
 use Rattle.mapping.specs.declared.geometry.Point.{Point}
 use Rattle.mapping.specs.declared.map_mode.MapMode.TheVariants.{Anisotropic, Text}
+use Rattle.mapping.specs.declared.fine_axis.FineAxis.{FineAxis}
 use Rattle.mapping.specs.declared.page_map.PageAxis.{PageAxis}
 use Rattle.mapping.specs.declared.page_map.PageMap.{PageMap}
 
--- the numbers of an axis
-abbrev pub axis_numbers : PageAxis → AxisNumbers
-axis_numbers a = record {
-  parts = a.parts;
+-- the numbers of an axis whose unit has so many parts
+abbrev pub axis_numbers : ℕ → PageAxis → AxisNumbers
+axis_numbers parts a = record {
+  parts = parts;
   window_origin = a.window_origin;
   window_extent = a.window_extent;
   viewport_origin = a.viewport_origin;
@@ -18,17 +19,27 @@ axis_numbers a = record {
   corner = a.corner;
 }
 
--- the plane coordinate of a page coordinate on an axis
-abbrev pub axis_coordinate : PageAxis → ℤ → ℤ
-axis_coordinate a v = plane_coordinate (axis_numbers a) v
+abbrev pub fine_numbers : FineAxis → AxisNumbers
+fine_numbers a = axis_numbers a.parts a.axis
 
--- the distance of a page coordinate from the window's origin in parts, scaled to the viewport and rounded down
+-- the plane coordinate of a page coordinate on an axis, where a unit is one part, and where it may have several
+abbrev pub axis_coordinate : PageAxis → ℤ → ℤ
+axis_coordinate a v = plane_coordinate (axis_numbers 1 a) v
+
+abbrev pub fine_coordinate : FineAxis → ℤ → ℤ
+fine_coordinate a v = plane_coordinate (fine_numbers a) v
+
+-- the distance of a page coordinate from the window's origin, scaled to the viewport and rounded down, in units and in
+-- parts
 abbrev pub scaled_distance : PageAxis → ℤ → ℤ
-scaled_distance a v = floor_div ((v -ℤ a.window_origin) *ℤ pos a.parts *ℤ a.viewport_extent) a.window_extent
+scaled_distance a v = floor_div ((v -ℤ a.window_origin) *ℤ a.viewport_extent) a.window_extent
+
+abbrev pub fine_distance : FineAxis → ℤ → ℤ
+fine_distance a v = floor_div ((v -ℤ a.axis.window_origin) *ℤ pos a.parts *ℤ a.axis.viewport_extent) a.axis.window_extent
 
 -- the numbers of a map, with its mode
 abbrev pub map_numbers : PageMap → MapNumbers
-map_numbers map = record { mode = map.mode; x = axis_numbers map.x; y = axis_numbers map.y }
+map_numbers map = record { mode = map.mode; x = axis_numbers map.parts map.x; y = axis_numbers map.parts map.y }
 
 -- an initial axis of a placeable file: the window is its box, and the viewport is the frame, which has the box's size
 -- and the corner 0; a unit is one part

@@ -8,7 +8,8 @@ pub(crate) fn floor_quotient(dividend: i64, divisor: i64) -> i64
     requires not_zero { divisor ≢ pos 0 }
     requires dividend_fits { unsigned_abs dividend < 2 ^ 63 }
     requires divisor_fits { unsigned_abs divisor < 2 ^ 63 }
-    ensures { result ≡ floor_div dividend divisor }
+    ensures value { result ≡ floor_div dividend divisor }
+    ensures bound { unsigned_abs result ≤ unsigned_abs dividend }
 {
     if divisor > 0 {
         dividend.div_euclid(divisor)

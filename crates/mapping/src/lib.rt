@@ -38,6 +38,7 @@
 
 mod cell_count;
 mod divisor;
+mod fine_axis;
 mod floor;
 mod geometry;
 mod limits;

@@ -1,9 +1,11 @@
 //! Page maps: where page coordinates land on the plane.
 
-ghost use Rattle.std.specs.Prelude.{◌≡◌, ◌≢◌, ◌^◌, ◌<◌, ◌≤◌, pos, ◌+ℤ◌, ◌-ℤ◌, ◌*ℤ◌, unsigned_abs, IfSome, SomeIff, is_some};
+ghost use Rattle.std.specs.Prelude.{◌≡◌, ◌≢◌, ◌+◌, ◌^◌, ◌<◌, ◌≤◌, pos, ◌+ℤ◌, ◌-ℤ◌, ◌*ℤ◌, unsigned_abs, SomeIff, is_some};
+ghost use Rattle.mapping.specs.Floor.{floor_div};
 ghost use Rattle.mapping.specs.Limits.{is_within, plane_limit};
 ghost use Rattle.mapping.specs.Plane.{IsPlaneCoordinate};
 
+use crate::fine_axis::FineAxis;
 use crate::floor::{floor_quotient, wide_floor_quotient};
 use crate::geometry::Point;
 use crate::limits::PLANE_LIMIT;
@@ -15,11 +17,8 @@ use crate::map_mode::MapMode;
 /// # Guarantees
 ///
 /// - The window's extent isn't 0, so coordinates can be scaled by it.
-/// - A unit has from 1 to 4,096 parts.
 #[derive(Clone, Copy, Debug, PartialEq, Eq)]
 pub struct PageAxis {
-    /// How many parts of the plane a unit of the device has.
-    pub parts: u32,
     pub window_origin: i32,
     pub window_extent: i32,
     pub viewport_origin: i32,
@@ -27,21 +26,18 @@ pub struct PageAxis {
     /// The frame's corner, which is the origin of the plane.
     pub corner: i32,
     pub ghost window_has_extent: { window_extent ≢ pos 0 },
-    pub ghost some_parts: { 1 ≤ parts },
-    pub ghost few_parts: { parts ≤ 4096 },
 }
 
 impl PageAxis {
-    ghost use Rattle.mapping.specs.PageMap.{axis_coordinate, axis_in_parts, axis_numbers, placeable_axis, scaled_distance, unscaled_axis};
+    ghost use Rattle.mapping.specs.PageMap.{axis_coordinate, axis_numbers, placeable_axis, unscaled_axis};
 
     /// An initial axis of a placeable file: the box's width or height is the window, and the frame's is the viewport.
     fn placeable(origin: i32, extent: i32) -> PageAxis
         requires has_extent { extent ≢ pos 0 }
         requires can_be_negated { unsigned_abs extent < 2 ^ 31 }
-        ensures { axis_numbers result ≡ placeable_axis origin extent }
+        ensures { axis_numbers 1 result ≡ placeable_axis origin extent }
     {
         PageAxis {
-            parts: 1,
             window_origin: origin,
             window_extent: extent,
             viewport_origin: 0,
@@ -52,31 +48,14 @@ impl PageAxis {
 
     /// An axis on which page coordinates are device coordinates, relative to the frame's corner.
     fn unscaled(corner: i32) -> PageAxis
-        ensures { axis_numbers result ≡ unscaled_axis corner }
+        ensures { axis_numbers 1 result ≡ unscaled_axis corner }
     {
         PageAxis {
-            parts: 1,
             window_origin: 0,
             window_extent: 1,
             viewport_origin: 0,
             viewport_extent: 1,
             corner,
-        }
-    }
-
-    /// The same axis with so many parts a unit.
-    fn in_parts(self, parts: u32) -> PageAxis
-        requires some { 1 ≤ parts }
-        requires few { parts ≤ 4096 }
-        ensures { axis_numbers result ≡ axis_in_parts parts (axis_numbers self) }
-    {
-        PageAxis {
-            parts,
-            window_origin: self.window_origin,
-            window_extent: self.window_extent,
-            viewport_origin: self.viewport_origin,
-            viewport_extent: self.viewport_extent,
-            corner: self.corner,
         }
     }
 
@@ -89,7 +68,7 @@ impl PageAxis {
     {
         if self.viewport_extent == self.window_extent {
             if let Ok(near) = i32::try_from(coordinate) {
-                return on_plane(self.distance(near), self.shift());
+                return on_plane(distance(near, self.window_origin), self.shift());
             }
         }
         self.scaled_plane(coordinate)
@@ -101,17 +80,13 @@ impl PageAxis {
         ensures value { let v = axis_coordinate self.now coordinate in SomeIff result (IsPlaneCoordinate v) v }
         ensures test { is_some result ≡ is_within plane_limit (axis_coordinate self.now coordinate) }
     {
-        let Ok(near) = i32::try_from(coordinate) else {
-            return self.wide_plane(coordinate);
-        };
-        match self.scaled(near) {
-            Some(scaled) => on_plane(scaled, self.shift()),
-            None => self.wide_plane(coordinate),
+        match i32::try_from(coordinate) {
+            Ok(coordinate) => on_plane(self.scaled(coordinate), self.shift()),
+            Err(_) => self.wide_plane(coordinate),
         }
     }
 
-    /// The same for a coordinate that may have more than 32 bits, such as the far corner of a blit, or whose product may
-    /// have more than 64.
+    /// The same for a coordinate that may have more than 32 bits, such as the far corner of a blit.
     fn wide_plane(&self, coordinate: i64) -> Option<i32>
         ensures value { let v = axis_coordinate self.now coordinate in SomeIff result (IsPlaneCoordinate v) v }
         ensures test { is_some result ≡ is_within plane_limit (axis_coordinate self.now coordinate) }
@@ -124,114 +99,61 @@ impl PageAxis {
         requires { IsPlaneCoordinate (axis_coordinate self.now coordinate) }
         ensures { result ≡ axis_coordinate self.now coordinate }
     {
-        match self.scaled(coordinate) {
-            Some(scaled) => plane_number(scaled, self.shift()),
-            None => self.wide_at(coordinate),
-        }
+        plane_number(self.scaled(coordinate), self.shift())
     }
 
-    /// The same, computed in 128 bits.
-    fn wide_at(&self, coordinate: i32) -> i32
-        requires { IsPlaneCoordinate (axis_coordinate self.now coordinate) }
-        ensures { result ≡ axis_coordinate self.now coordinate }
+    /// The distance of a coordinate from the window's origin, scaled from the window's extent to the viewport's and
+    /// rounded down, for a coordinate of 32 bits. If both extents are the same, as initially in every file that isn't
+    /// mirrored, nothing is scaled or divided.
+    pub(crate) fn scaled(&self, coordinate: i32) -> i64
+        ensures { result ≡ floor_div ((coordinate -ℤ self.now.window_origin) *ℤ self.now.viewport_extent) self.now.window_extent }
     {
-        match self.wide_plane(i64::from(coordinate)) {
-            Some(there) => there,
-            None => unreachable!(),
-        }
-    }
-
-    /// The distance of a coordinate from the window's origin, scaled from the window's extent to the viewport's, counted
-    /// in parts and rounded down, for a coordinate of 32 bits. `None` if the product would exceed 64 bits. If both
-    /// extents are the same, as initially in every file that isn't mirrored, nothing is divided.
-    fn scaled(&self, coordinate: i32) -> Option<i64>
-        ensures { IfSome result (λ there. there ≡ scaled_distance self.now coordinate) }
-    {
-        let distance = self.distance(coordinate);
+        let distance = distance(coordinate, self.window_origin);
         if self.viewport_extent == self.window_extent {
-            return Some(distance);
+            return distance;
         }
-        let product = product(distance, self.viewport_extent)?;
-        Some(floor_quotient(product, i64::from(self.window_extent)))
+        let product = product(distance, i64::from(self.viewport_extent));
+        floor_quotient(product, i64::from(self.window_extent))
     }
 
     /// The same for a coordinate that may have more than 32 bits, computed in 128 bits.
     fn wide_scaled(&self, coordinate: i64) -> i128
-        ensures { result ≡ scaled_distance self.now coordinate }
+        ensures { result ≡ floor_div ((coordinate -ℤ self.now.window_origin) *ℤ self.now.viewport_extent) self.now.window_extent }
     {
-        let distance = wide_in_parts(
-            wide_distance(coordinate, self.window_origin),
-            i128::from(self.parts),
-        );
+        let distance = wide_distance(coordinate, self.window_origin);
         let product = wide_product(distance, i128::from(self.viewport_extent));
         wide_floor_quotient(product, i128::from(self.window_extent))
     }
 
-    /// The distance of a coordinate from the window's origin, in parts.
-    fn distance(&self, coordinate: i32) -> i64
-        ensures value { result ≡ (coordinate -ℤ self.now.window_origin) *ℤ pos self.now.parts }
-        ensures bound { unsigned_abs result < 2 ^ 44 }
-    {
-        in_parts(
-            distance(coordinate, self.window_origin),
-            i64::from(self.parts),
-        )
-    }
-
-    /// The shift after scaling, in parts: the viewport's origin, relative to the frame's corner.
+    /// The shift after scaling: the viewport's origin, relative to the frame's corner.
     fn shift(&self) -> i64
-        ensures value { result ≡ (self.now.viewport_origin -ℤ self.now.corner) *ℤ pos self.now.parts }
-        ensures bound { unsigned_abs result < 2 ^ 44 }
+        ensures value { result ≡ self.now.viewport_origin -ℤ self.now.corner }
+        ensures bound { unsigned_abs result < 2 ^ 32 }
     {
-        in_parts(
-            distance(self.viewport_origin, self.corner),
-            i64::from(self.parts),
-        )
+        i64::from(self.viewport_origin) - i64::from(self.corner)
     }
 }
 
 /// The distance of a page coordinate from the window's origin.
-fn distance(coordinate: i32, origin: i32) -> i64
+pub(crate) fn distance(coordinate: i32, origin: i32) -> i64
     ensures value { result ≡ coordinate -ℤ origin }
     ensures bound { unsigned_abs result < 2 ^ 32 }
 {
     i64::from(coordinate) - i64::from(origin)
 }
 
-/// A distance in parts.
-fn in_parts(distance: i64, parts: i64) -> i64
+/// A distance on the page times a viewport's extent.
+pub(crate) fn product(distance: i64, extent: i64) -> i64
     requires distance_fits { unsigned_abs distance < 2 ^ 32 }
-    requires parts_fit { unsigned_abs parts ≤ 2 ^ 12 }
-    ensures value { result ≡ distance *ℤ parts }
-    ensures bound { unsigned_abs result < 2 ^ 44 }
+    requires extent_fits { unsigned_abs extent ≤ 2 ^ 31 }
+    ensures value { result ≡ distance *ℤ extent }
+    ensures bound { unsigned_abs result + 2 ^ 31 ≤ 2 ^ 63 }
 {
-    distance * parts
-}
-
-/// A distance times a viewport's extent. `None` if the product doesn't fit 64 bits, or couldn't be negated in them.
-fn product(distance: i64, extent: i32) -> Option<i64>
-    ensures value { IfSome result (λ product. product ≡ distance *ℤ extent) }
-    ensures bound { IfSome result (λ product. unsigned_abs product < 2 ^ 63) }
-{
-    let product = distance.checked_mul(i64::from(extent))?;
-    if product == i64::MIN {
-        return None;
-    }
-    Some(product)
-}
-
-/// A distance of more than 64 bits, in parts.
-fn wide_in_parts(distance: i128, parts: i128) -> i128
-    requires distance_fits { unsigned_abs distance ≤ 2 ^ 65 }
-    requires parts_fit { unsigned_abs parts ≤ 2 ^ 12 }
-    ensures value { result ≡ distance *ℤ parts }
-    ensures bound { unsigned_abs result ≤ 2 ^ 77 }
-{
-    distance * parts
+    distance * extent
 }
 
 /// The distance of a page coordinate of more than 32 bits from the window's origin.
-fn wide_distance(coordinate: i64, origin: i32) -> i128
+pub(crate) fn wide_distance(coordinate: i64, origin: i32) -> i128
     ensures value { result ≡ coordinate -ℤ origin }
     ensures bound { unsigned_abs result ≤ 2 ^ 65 }
 {
@@ -239,7 +161,7 @@ fn wide_distance(coordinate: i64, origin: i32) -> i128
 }
 
 /// Such a distance times a viewport's extent.
-fn wide_product(distance: i128, extent: i128) -> i128
+pub(crate) fn wide_product(distance: i128, extent: i128) -> i128
     requires distance_fits { unsigned_abs distance ≤ 2 ^ 77 }
     requires extent_fits { unsigned_abs extent ≤ 2 ^ 31 }
     ensures value { result ≡ distance *ℤ extent }
@@ -259,7 +181,7 @@ fn plane_number(scaled: i64, shift: i64) -> i32
 
 /// The plane coordinate from a scaled distance and a shift. `None` if it lies outside the plane.
 #[tactic(auto, unfolding(crate::specs::Limits::plane_limit))]
-fn on_plane(scaled: i64, shift: i64) -> Option<i32>
+pub(crate) fn on_plane(scaled: i64, shift: i64) -> Option<i32>
     ensures value { SomeIff result (IsPlaneCoordinate (scaled +ℤ shift)) (scaled +ℤ shift) }
     ensures test { is_some result ≡ is_within plane_limit (scaled +ℤ shift) }
 {
@@ -273,7 +195,7 @@ fn on_plane(scaled: i64, shift: i64) -> Option<i32>
 
 /// The same for a distance that may have more than 64 bits, and then lies outside the plane.
 #[tactic(auto, unfolding(crate::specs::Limits::plane_limit))]
-fn wide_on_plane(scaled: i128, shift: i64) -> Option<i32>
+pub(crate) fn wide_on_plane(scaled: i128, shift: i64) -> Option<i32>
     requires { unsigned_abs shift < 2 ^ 44 }
     ensures value { SomeIff result (IsPlaneCoordinate (scaled +ℤ shift)) (scaled +ℤ shift) }
     ensures test { is_some result ≡ is_within plane_limit (scaled +ℤ shift) }
@@ -283,11 +205,19 @@ fn wide_on_plane(scaled: i128, shift: i64) -> Option<i32>
 
 /// Where page coordinates land on the plane, separately on each axis. The mode decides whether records can change the
 /// extents.
+///
+/// # Guarantees
+///
+/// - A unit of the device has from 1 to 4,096 parts.
 #[derive(Clone, Copy, Debug, PartialEq, Eq)]
 pub struct PageMap {
     pub mode: MapMode,
+    /// How many parts of the plane a unit of the device has.
+    pub parts: u16,
     pub x: PageAxis,
     pub y: PageAxis,
+    pub ghost some_parts: { 1 ≤ parts },
+    pub ghost few_parts: { parts ≤ 4096 },
 }
 
 impl PageMap {
@@ -305,6 +235,7 @@ impl PageMap {
     {
         PageMap {
             mode: MapMode::Anisotropic,
+            parts: 1,
             x: PageAxis::placeable(corner.x, dimensions.x),
             y: PageAxis::placeable(corner.y, dimensions.y),
         }
@@ -329,26 +260,42 @@ impl PageMap {
     {
         PageMap {
             mode: MapMode::Text,
+            parts: 1,
             x: PageAxis::unscaled(corner.x),
             y: PageAxis::unscaled(corner.y),
         }
     }
 
     /// The same map with so many parts a unit.
-    pub fn in_parts(self, parts: u32) -> PageMap
+    pub fn in_parts(self, parts: u16) -> PageMap
         requires some { 1 ≤ parts }
         requires few { parts ≤ 4096 }
         ensures { map_numbers result ≡ map_in_parts parts (map_numbers self) }
     {
         PageMap {
             mode: self.mode,
-            x: self.x.in_parts(parts),
-            y: self.y.in_parts(parts),
+            parts,
+            x: self.x,
+            y: self.y,
         }
     }
 
     /// The plane point of a page point. `None` exactly if one of its coordinates would be more than 2^30 from 0.
+    #[inline]
     pub fn plane(&self, x: i64, y: i64) -> Option<Point>
+        ensures point { let there = plane_point (map_numbers self.now) x y in SomeIff result (IsOnPlane there) there }
+        ensures test { is_some result ≡ is_on_plane (plane_point (map_numbers self.now) x y) }
+    {
+        if self.parts == 1 {
+            return self.plane_in_units(x, y);
+        }
+        self.plane_in_parts(x, y)
+    }
+
+    /// The same where a unit is one part.
+    #[inline]
+    fn plane_in_units(&self, x: i64, y: i64) -> Option<Point>
+        requires { self.now.parts ≡ 1 }
         ensures point { let there = plane_point (map_numbers self.now) x y in SomeIff result (IsOnPlane there) there }
         ensures test { is_some result ≡ is_on_plane (plane_point (map_numbers self.now) x y) }
     {
@@ -361,14 +308,77 @@ impl PageMap {
         Some(Point { x, y })
     }
 
+    /// The same where it may have several.
+    #[inline(never)]
+    fn plane_in_parts(&self, x: i64, y: i64) -> Option<Point>
+        ensures point { let there = plane_point (map_numbers self.now) x y in SomeIff result (IsOnPlane there) there }
+        ensures test { is_some result ≡ is_on_plane (plane_point (map_numbers self.now) x y) }
+    {
+        let Some(x) = self.fine_x().plane(x) else {
+            return None;
+        };
+        let Some(y) = self.fine_y().plane(y) else {
+            return None;
+        };
+        Some(Point { x, y })
+    }
+
     /// The plane point of a page point that doesn't leave the plane.
+    #[inline]
     pub fn at(&self, point: Point) -> Point
         requires { IsOnPlane (plane_point (map_numbers self.now) point.x point.y) }
+        ensures { result ≡ plane_point (map_numbers self.now) point.x point.y }
+    {
+        if self.parts == 1 {
+            return self.at_in_units(point);
+        }
+        self.at_in_parts(point)
+    }
+
+    /// The same where a unit is one part.
+    #[inline]
+    fn at_in_units(&self, point: Point) -> Point
+        requires unit { self.now.parts ≡ 1 }
+        requires there { IsOnPlane (plane_point (map_numbers self.now) point.x point.y) }
         ensures { result ≡ plane_point (map_numbers self.now) point.x point.y }
     {
         Point {
             x: self.x.at(point.x),
             y: self.y.at(point.y),
+        }
+    }
+
+    /// The same where it may have several.
+    #[inline(never)]
+    fn at_in_parts(&self, point: Point) -> Point
+        requires { IsOnPlane (plane_point (map_numbers self.now) point.x point.y) }
+        ensures { result ≡ plane_point (map_numbers self.now) point.x point.y }
+    {
+        Point {
+            x: self.fine_x().at(point.x),
+            y: self.fine_y().at(point.y),
+        }
+    }
+
+    /// The horizontal axis, in parts.
+    pub(crate) fn fine_x(&self) -> FineAxis
+        ensures axis { result.axis ≡ self.now.x }
+        ensures parts { result.parts ≡ self.now.parts }
+    {
+        FineAxis {
+            axis: self.x,
+            parts: self.parts,
+        }
+    }
+
+    /// The vertical axis, in parts.
+    pub(crate) fn fine_y(&self) -> FineAxis
+        ensures axis { result.axis ≡ self.now.y }
+        ensures parts { result.parts ≡ self.now.parts }
+    {
+        FineAxis {
+            axis: self.y,
+            parts: self.parts,
         }
     }
 }

@@ -9,12 +9,12 @@ use crate::geometry::Frame;
 const MAX_FINE_SIDE: u64 = 1 << 20;
 
 /// The numbers of parts that a unit may have besides one, from the most on.
-const PART_COUNTS: [u32; 12] = [4096, 2048, 1024, 512, 256, 128, 64, 32, 16, 8, 4, 2];
+const PART_COUNTS: [u16; 12] = [4096, 2048, 1024, 512, 256, 128, 64, 32, 16, 8, 4, 2];
 
 impl Frame {
     /// How many parts a unit has on the frame's fine plane: the most of 1, 2, 4, .., 4,096 with which the longer side
     /// has at most 2^20 parts, or 1 if there is none.
-    pub fn parts(&self) -> u32
+    pub fn parts(&self) -> u16
         ensures { result ≡ fine_parts self.now }
     {
         first_fine(self.width.max(self.height), &PART_COUNTS)
@@ -26,7 +26,7 @@ impl Frame {
         ensures height { result.height ≡ self.now.height * fine_parts self.now }
     {
         part_law();
-        let parts = self.parts();
+        let parts = u32::from(self.parts());
         Frame {
             width: self.width * parts,
             height: self.height * parts,
@@ -35,7 +35,7 @@ impl Frame {
 }
 
 /// The first of these numbers of parts with which the side isn't too long, or 1 if there is none.
-fn first_fine(side: u32, counts: &[u32]) -> u32
+fn first_fine(side: u32, counts: &[u16]) -> u16
     ensures { result ≡ first_fine side counts.now }
 {
     for parts in counts {

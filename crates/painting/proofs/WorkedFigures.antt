@@ -66,15 +66,12 @@ has_extent e = cc
 -- a map that moves the origin of the page to a column, without scaling
 abbrev axis : ℤ → PageAxis
 axis origin = record {
-  parts = 1;
   window_origin = pos 0;
   window_extent = pos 1;
   viewport_origin = origin;
   viewport_extent = pos 1;
   corner = pos 0;
   window_has_extent = has_extent;
-  some_parts = omega arith;
-  few_parts = omega arith;
 }
 
 abbrev map_at : ℤ → PageMap

@@ -1,5 +1,5 @@
 -- What is not scaled is its distance from the window's origin.
-use Rattle.std.proofs.Common.{◌≡◌, ◌∙◌, ap, pos, sym, rules, to_z}
+use Rattle.std.proofs.Common.{refl, ◌≡◌, ◌∙◌, ap, sym, rules, to_z}
 use Rattle.std.specs.Prelude.{◌+ℤ◌, ◌-ℤ◌, ◌*ℤ◌, FitsSigned}
 use Rattle.std.specs.Int.{w32, w64}
 use Rattle.std.proofs.lemmas.Int.{to_z-of_z}
@@ -15,13 +15,13 @@ there c =
     let whole_fits = c.ranges.coordinate in
     let viewport_fits : FitsSigned w32 axis.viewport_extent = search rules in
     let window_fits : FitsSigned w32 axis.window_extent = search rules in
+    let origin_fits : FitsSigned w32 axis.window_origin = search rules in
     let near_fits : FitsSigned w32 c.in-Ok.near = search rules in
     let same : c.in-Ok.near ≡ c.args.coordinate = simp to_z-of_z at (c.in-Ok.ensures.1) in
     let extents : axis.viewport_extent ≡ axis.window_extent = simp to_z-of_z at (ap (to_z w32) c.if-self.true) in
-    let away = (c.args.coordinate -ℤ axis.window_origin) *ℤ pos axis.parts in
     let distance = simp to_z-of_z at c.distance.ensures.value in
-    let whole = sym (ap (λ v. floor_div (away *ℤ v) axis.window_extent) extents ∙ floor_of_multiple away axis.window_extent axis.window_has_extent) in
-    scaled_and_moved (axis_numbers axis) c.args.coordinate c.distance.result c.shift.result ((rw same at distance) ∙ whole) c.shift.ensures.value
+    let whole = sym (ap (λ v. floor_div ((c.args.coordinate -ℤ axis.window_origin) *ℤ v) axis.window_extent) extents ∙ floor_of_multiple (c.args.coordinate -ℤ axis.window_origin) axis.window_extent axis.window_has_extent) in
+    scaled_and_moved (axis_numbers 1 axis) c.args.coordinate c.distance.result c.shift.result refl ((rw same at distance) ∙ whole) c.shift.ensures.value
 
 pub returns-in-Ok-clause-value : goal.returns-in-Ok-clause-value
 returns-in-Ok-clause-value c =
