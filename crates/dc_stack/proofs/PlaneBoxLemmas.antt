@@ -7,7 +7,7 @@ use Rattle.std.specs.Int.{int_max, int_min}
 use Rattle.std.specs.List.{list_all}
 use Rattle.mapping.specs.Boxes.{HasPoint, IsBoxOver, IsBoundingBox, IsTight, KeepsBetween, no_box, point_box, box_between, right_bottom_of, mapped_by, left_top_of}
 use Rattle.mapping.specs.BoxLaws.{BoxLaws}
-use Rattle.mapping.specs.PageMap.{axis_numbers, map_numbers}
+use Rattle.mapping.specs.PageMap.{map_numbers}
 use Rattle.mapping.specs.LimitTests.{TestsAreLimits}
 use Rattle.mapping.specs.Limits.{is_within, plane_limit}
 use Rattle.mapping.specs.Plane.{is_on_plane, plane_coordinate}

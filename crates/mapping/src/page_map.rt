@@ -337,7 +337,7 @@ impl PageMap {
 
     /// The same where a unit is one part.
     #[inline]
-    fn at_in_units(&self, point: Point) -> Point
+    pub fn at_in_units(&self, point: Point) -> Point
         requires unit { self.now.parts ≡ 1 }
         requires there { IsOnPlane (plane_point (map_numbers self.now) point.x point.y) }
         ensures { result ≡ plane_point (map_numbers self.now) point.x point.y }
@@ -350,7 +350,7 @@ impl PageMap {
 
     /// The same where it may have several.
     #[inline(never)]
-    fn at_in_parts(&self, point: Point) -> Point
+    pub fn at_in_parts(&self, point: Point) -> Point
         requires { IsOnPlane (plane_point (map_numbers self.now) point.x point.y) }
         ensures { result ≡ plane_point (map_numbers self.now) point.x point.y }
     {
