@@ -2,4 +2,4 @@
 
 /// The line that `--version` writes: the version, and the checksum of all sources but this one.
 pub(crate) const VERSION: &str =
-    "metaplay 1.0.0 (sources ed65c6668a9462548492c580f5056d6d36385403323950aa2e661bc1dba339cd)\n";
+    "metaplay 1.0.0 (sources b50de2b96476346649e6d054e8708015c1d72b923100d4255a018519a28daa0f)\n";

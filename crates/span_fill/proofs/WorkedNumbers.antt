@@ -4,7 +4,7 @@ use Rattle.span_fill.specs.Numberings.{number_of}
 use Rattle.span_fill.specs.declared.grid.Grid.{Grid}
 
 -- rows are 10 numbers apart, and row 3 is the first
-rows_of_ten : Grid
+abbrev rows_of_ten : Grid
 rows_of_ten = record { stride = 10; first = 3; narrow = omega arith; low = omega arith }
 
 first_pixel : number_of rows_of_ten (pos 0) (pos 3) ≡ pos 0
