@@ -10,7 +10,8 @@ use crate::product::product;
 use crate::span::Span;
 
 /// The steps of a line whose coordinates lie within `u` on the major axis and within `v` on the minor one. If both ends
-/// of the line lie within them, all steps do.
+/// of the line lie within them, all steps do. Most lines of a drawing are such lines, and are spared a call.
+#[inline(always)]
 pub(crate) fn clipped(major: MajorLine, u: Span, v: Span) -> Span
     requires major { IsMajorLine major }
     requires u { u.to ≤ 8192 }
@@ -24,6 +25,18 @@ pub(crate) fn clipped(major: MajorLine, u: Span, v: Span) -> Span
             to: major.length(),
         };
     }
+    common_steps(major, u, v)
+}
+
+/// The same, wherever the ends lie. A line that doesn't get to `u` needs no division.
+#[inline(never)]
+fn common_steps(major: MajorLine, u: Span, v: Span) -> Span
+    requires major { IsMajorLine major }
+    requires u { u.to ≤ 8192 }
+    requires v { v.to ≤ 8192 }
+    ensures exact { AreStepsWithin major u v result }
+    ensures bound { result.to ≤ length_of major }
+{
     let along = steps_along(major, ordered(u));
     if along.to <= along.from {
         return along;
