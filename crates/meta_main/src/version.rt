@@ -2,4 +2,4 @@
 
 /// The line that `--version` writes: the version, and the checksum of all sources but this one.
 pub(crate) const VERSION: &str =
-    "metaplay 1.0.0 (sources b50de2b96476346649e6d054e8708015c1d72b923100d4255a018519a28daa0f)\n";
+    "metaplay 1.0.0 (sources 5250fda881c8cc433fc1d94519f4981ea5a213f55907a42a7efc2e87b89435f7)\n";
