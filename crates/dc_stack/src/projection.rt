@@ -19,7 +19,21 @@ impl Projection {
         requires { IsTrue (is_projected self.now point) }
         ensures { result ≡ projected self.now point }
     {
+        if self.map.parts == 1 {
+            limits_law();
+            return self.place.at(self.map.at_in_units(point));
+        }
+        self.at_in_parts(point)
+    }
+
+    /// The same where a unit may have several parts. This isn't inlined, so that the call in `at` is its last step and
+    /// costs nothing elsewhere.
+    #[inline(never)]
+    fn at_in_parts(&self, point: Point) -> Point
+        requires { IsTrue (is_projected self.now point) }
+        ensures { result ≡ projected self.now point }
+    {
         limits_law();
-        self.place.at(self.map.at(point))
+        self.place.at(self.map.at_in_parts(point))
     }
 }

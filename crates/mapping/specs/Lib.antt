@@ -8,6 +8,7 @@ pub mod PlacingLaws
 pub mod Nibs
 pub mod LimitTests
 pub mod PageMap
+pub mod Parts
 pub mod Image
 pub mod Colours
 pub mod PlaceOf

@@ -50,10 +50,10 @@ reach_before n = (n - 1) / 2
 abbrev pub reach_after : ℕ → ℕ
 reach_after n = n - 1 - reach_before n
 
--- a width in page units, scaled to a surface and rounded down
+-- a width in page units, scaled to a surface and rounded down. The frame's side is counted in parts
 abbrev pub scaled_width : ℕ → AxisNumbers → ℕ → ℕ → ℕ
 scaled_width width axis surface_side frame_side =
-    width * unsigned_abs axis.viewport_extent * surface_side / (unsigned_abs axis.window_extent * frame_side)
+    width * unsigned_abs axis.viewport_extent * (axis.parts * surface_side) / (unsigned_abs axis.window_extent * frame_side)
 
 -- how many columns, or rows, of the surface a pen of this width covers: at least one
 abbrev pub nib_side : ℕ → AxisNumbers → ℕ → ℕ → ℕ

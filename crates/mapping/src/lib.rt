@@ -38,6 +38,7 @@
 
 mod cell_count;
 mod divisor;
+mod fine_axis;
 mod floor;
 mod geometry;
 mod limits;
@@ -47,6 +48,7 @@ mod map_settings;
 mod mix;
 mod nib;
 mod page_map;
+mod parts;
 mod place;
 
 pub use cell_count::{cell_law, cells, wide_cell_law, wide_cells};
@@ -58,4 +60,5 @@ pub use map_mode::MapMode;
 pub use mix::Mix;
 pub use nib::{MAX_NIB_SIDE, Nib, nib_law, reach_after, reach_before};
 pub use page_map::{PageAxis, PageMap};
+pub use parts::part_law;
 pub use place::{Place, box_law, placing_law};

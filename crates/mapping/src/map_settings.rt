@@ -1,6 +1,6 @@
 //! How records change a page map: its mode, and the origins and extents of its window and its viewport.
 
-ghost use Rattle.std.specs.Prelude.{◌≡◌, ◌≢◌, ◌+ℤ◌, ◌||◌, pos, IfSome, OnErr, OnOk, is_err, is_ok, is_some};
+ghost use Rattle.std.specs.Prelude.{◌≡◌, ℕ, ◌≢◌, ◌+ℤ◌, ◌||◌, pos, IfSome, OnErr, OnOk, is_err, is_ok, is_some};
 ghost use Rattle.std.specs.Ordering.{int_eq};
 ghost use Rattle.mapping.specs.MapSettings.{is_page_coordinate, may_set_extents};
 
@@ -121,7 +121,7 @@ impl PageAxis {
     /// The axis with another window.
     fn with_window(self, origin: i32, extent: i32) -> PageAxis
         requires { extent ≢ pos 0 }
-        ensures { axis_numbers result ≡ with_window origin extent (axis_numbers self) }
+        ensures { (parts : ℕ) → axis_numbers parts result ≡ with_window origin extent (axis_numbers parts self) }
     {
         PageAxis {
             window_origin: origin,
@@ -134,7 +134,7 @@ impl PageAxis {
 
     /// The axis with another viewport.
     fn with_viewport(self, origin: i32, extent: i32) -> PageAxis
-        ensures { axis_numbers result ≡ with_viewport origin extent (axis_numbers self) }
+        ensures { (parts : ℕ) → axis_numbers parts result ≡ with_viewport origin extent (axis_numbers parts self) }
     {
         PageAxis {
             window_origin: self.window_origin,
@@ -147,7 +147,7 @@ impl PageAxis {
 
     /// The axis with both extents 1.
     fn with_unit_extents(self) -> PageAxis
-        ensures { axis_numbers result ≡ with_unit_extents (axis_numbers self) }
+        ensures { (parts : ℕ) → axis_numbers parts result ≡ with_unit_extents (axis_numbers parts self) }
     {
         PageAxis {
             window_origin: self.window_origin,

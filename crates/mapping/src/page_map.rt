@@ -1,10 +1,11 @@
 //! Page maps: where page coordinates land on the plane.
 
-ghost use Rattle.std.specs.Prelude.{◌≡◌, ◌≢◌, ◌^◌, ◌<◌, ◌≤◌, pos, ◌+ℤ◌, ◌-ℤ◌, ◌*ℤ◌, unsigned_abs, SomeIff, is_some};
+ghost use Rattle.std.specs.Prelude.{◌≡◌, ◌≢◌, ◌+◌, ◌^◌, ◌<◌, ◌≤◌, pos, ◌+ℤ◌, ◌-ℤ◌, ◌*ℤ◌, unsigned_abs, SomeIff, is_some};
 ghost use Rattle.mapping.specs.Floor.{floor_div};
 ghost use Rattle.mapping.specs.Limits.{is_within, plane_limit};
 ghost use Rattle.mapping.specs.Plane.{IsPlaneCoordinate};
 
+use crate::fine_axis::FineAxis;
 use crate::floor::{floor_quotient, wide_floor_quotient};
 use crate::geometry::Point;
 use crate::limits::PLANE_LIMIT;
@@ -34,7 +35,7 @@ impl PageAxis {
     fn placeable(origin: i32, extent: i32) -> PageAxis
         requires has_extent { extent ≢ pos 0 }
         requires can_be_negated { unsigned_abs extent < 2 ^ 31 }
-        ensures { axis_numbers result ≡ placeable_axis origin extent }
+        ensures { axis_numbers 1 result ≡ placeable_axis origin extent }
     {
         PageAxis {
             window_origin: origin,
@@ -47,7 +48,7 @@ impl PageAxis {
 
     /// An axis on which page coordinates are device coordinates, relative to the frame's corner.
     fn unscaled(corner: i32) -> PageAxis
-        ensures { axis_numbers result ≡ unscaled_axis corner }
+        ensures { axis_numbers 1 result ≡ unscaled_axis corner }
     {
         PageAxis {
             window_origin: 0,
@@ -104,7 +105,7 @@ impl PageAxis {
     /// The distance of a coordinate from the window's origin, scaled from the window's extent to the viewport's and
     /// rounded down, for a coordinate of 32 bits. If both extents are the same, as initially in every file that isn't
     /// mirrored, nothing is scaled or divided.
-    fn scaled(&self, coordinate: i32) -> i64
+    pub(crate) fn scaled(&self, coordinate: i32) -> i64
         ensures { result ≡ floor_div ((coordinate -ℤ self.now.window_origin) *ℤ self.now.viewport_extent) self.now.window_extent }
     {
         let distance = distance(coordinate, self.window_origin);
@@ -134,7 +135,7 @@ impl PageAxis {
 }
 
 /// The distance of a page coordinate from the window's origin.
-fn distance(coordinate: i32, origin: i32) -> i64
+pub(crate) fn distance(coordinate: i32, origin: i32) -> i64
     ensures value { result ≡ coordinate -ℤ origin }
     ensures bound { unsigned_abs result < 2 ^ 32 }
 {
@@ -142,17 +143,17 @@ fn distance(coordinate: i32, origin: i32) -> i64
 }
 
 /// A distance on the page times a viewport's extent.
-fn product(distance: i64, extent: i64) -> i64
+pub(crate) fn product(distance: i64, extent: i64) -> i64
     requires distance_fits { unsigned_abs distance < 2 ^ 32 }
     requires extent_fits { unsigned_abs extent ≤ 2 ^ 31 }
     ensures value { result ≡ distance *ℤ extent }
-    ensures bound { unsigned_abs result < 2 ^ 63 }
+    ensures bound { unsigned_abs result + 2 ^ 31 ≤ 2 ^ 63 }
 {
     distance * extent
 }
 
 /// The distance of a page coordinate of more than 32 bits from the window's origin.
-fn wide_distance(coordinate: i64, origin: i32) -> i128
+pub(crate) fn wide_distance(coordinate: i64, origin: i32) -> i128
     ensures value { result ≡ coordinate -ℤ origin }
     ensures bound { unsigned_abs result ≤ 2 ^ 65 }
 {
@@ -160,11 +161,11 @@ fn wide_distance(coordinate: i64, origin: i32) -> i128
 }
 
 /// Such a distance times a viewport's extent.
-fn wide_product(distance: i128, extent: i128) -> i128
-    requires distance_fits { unsigned_abs distance ≤ 2 ^ 65 }
+pub(crate) fn wide_product(distance: i128, extent: i128) -> i128
+    requires distance_fits { unsigned_abs distance ≤ 2 ^ 77 }
     requires extent_fits { unsigned_abs extent ≤ 2 ^ 31 }
     ensures value { result ≡ distance *ℤ extent }
-    ensures bound { unsigned_abs result ≤ 2 ^ 96 }
+    ensures bound { unsigned_abs result ≤ 2 ^ 108 }
 {
     distance * extent
 }
@@ -180,7 +181,7 @@ fn plane_number(scaled: i64, shift: i64) -> i32
 
 /// The plane coordinate from a scaled distance and a shift. `None` if it lies outside the plane.
 #[tactic(auto, unfolding(crate::specs::Limits::plane_limit))]
-fn on_plane(scaled: i64, shift: i64) -> Option<i32>
+pub(crate) fn on_plane(scaled: i64, shift: i64) -> Option<i32>
     ensures value { SomeIff result (IsPlaneCoordinate (scaled +ℤ shift)) (scaled +ℤ shift) }
     ensures test { is_some result ≡ is_within plane_limit (scaled +ℤ shift) }
 {
@@ -194,8 +195,8 @@ fn on_plane(scaled: i64, shift: i64) -> Option<i32>
 
 /// The same for a distance that may have more than 64 bits, and then lies outside the plane.
 #[tactic(auto, unfolding(crate::specs::Limits::plane_limit))]
-fn wide_on_plane(scaled: i128, shift: i64) -> Option<i32>
-    requires { unsigned_abs shift < 2 ^ 32 }
+pub(crate) fn wide_on_plane(scaled: i128, shift: i64) -> Option<i32>
+    requires { unsigned_abs shift < 2 ^ 44 }
     ensures value { SomeIff result (IsPlaneCoordinate (scaled +ℤ shift)) (scaled +ℤ shift) }
     ensures test { is_some result ≡ is_within plane_limit (scaled +ℤ shift) }
 {
@@ -204,16 +205,24 @@ fn wide_on_plane(scaled: i128, shift: i64) -> Option<i32>
 
 /// Where page coordinates land on the plane, separately on each axis. The mode decides whether records can change the
 /// extents.
+///
+/// # Guarantees
+///
+/// - A unit of the device has from 1 to 4,096 parts.
 #[derive(Clone, Copy, Debug, PartialEq, Eq)]
 pub struct PageMap {
     pub mode: MapMode,
+    /// How many parts of the plane a unit of the device has.
+    pub parts: u16,
     pub x: PageAxis,
     pub y: PageAxis,
+    pub ghost some_parts: { 1 ≤ parts },
+    pub ghost few_parts: { parts ≤ 4096 },
 }
 
 impl PageMap {
     ghost use Rattle.mapping.specs.Plane.{IsOnPlane, is_on_plane, plane_point};
-    ghost use Rattle.mapping.specs.PageMap.{map_numbers, placeable_map, plain_map, unscaled_map};
+    ghost use Rattle.mapping.specs.PageMap.{map_in_parts, map_numbers, placeable_map, plain_map, unscaled_map};
 
     /// The initial map of a placeable file ([MS-WMF] 2.3.2.3) whose box has this corner and this size. A negative size
     /// means that the right or the bottom comes first.
@@ -226,6 +235,7 @@ impl PageMap {
     {
         PageMap {
             mode: MapMode::Anisotropic,
+            parts: 1,
             x: PageAxis::placeable(corner.x, dimensions.x),
             y: PageAxis::placeable(corner.y, dimensions.y),
         }
@@ -250,13 +260,42 @@ impl PageMap {
     {
         PageMap {
             mode: MapMode::Text,
+            parts: 1,
             x: PageAxis::unscaled(corner.x),
             y: PageAxis::unscaled(corner.y),
         }
     }
 
+    /// The same map with so many parts a unit.
+    pub fn in_parts(self, parts: u16) -> PageMap
+        requires some { 1 ≤ parts }
+        requires few { parts ≤ 4096 }
+        ensures { map_numbers result ≡ map_in_parts parts (map_numbers self) }
+    {
+        PageMap {
+            mode: self.mode,
+            parts,
+            x: self.x,
+            y: self.y,
+        }
+    }
+
     /// The plane point of a page point. `None` exactly if one of its coordinates would be more than 2^30 from 0.
+    #[inline]
     pub fn plane(&self, x: i64, y: i64) -> Option<Point>
+        ensures point { let there = plane_point (map_numbers self.now) x y in SomeIff result (IsOnPlane there) there }
+        ensures test { is_some result ≡ is_on_plane (plane_point (map_numbers self.now) x y) }
+    {
+        if self.parts == 1 {
+            return self.plane_in_units(x, y);
+        }
+        self.plane_in_parts(x, y)
+    }
+
+    /// The same where a unit is one part.
+    #[inline]
+    fn plane_in_units(&self, x: i64, y: i64) -> Option<Point>
+        requires { self.now.parts ≡ 1 }
         ensures point { let there = plane_point (map_numbers self.now) x y in SomeIff result (IsOnPlane there) there }
         ensures test { is_some result ≡ is_on_plane (plane_point (map_numbers self.now) x y) }
     {
@@ -269,14 +308,77 @@ impl PageMap {
         Some(Point { x, y })
     }
 
+    /// The same where it may have several.
+    #[inline(never)]
+    fn plane_in_parts(&self, x: i64, y: i64) -> Option<Point>
+        ensures point { let there = plane_point (map_numbers self.now) x y in SomeIff result (IsOnPlane there) there }
+        ensures test { is_some result ≡ is_on_plane (plane_point (map_numbers self.now) x y) }
+    {
+        let Some(x) = self.fine_x().plane(x) else {
+            return None;
+        };
+        let Some(y) = self.fine_y().plane(y) else {
+            return None;
+        };
+        Some(Point { x, y })
+    }
+
     /// The plane point of a page point that doesn't leave the plane.
+    #[inline]
     pub fn at(&self, point: Point) -> Point
         requires { IsOnPlane (plane_point (map_numbers self.now) point.x point.y) }
+        ensures { result ≡ plane_point (map_numbers self.now) point.x point.y }
+    {
+        if self.parts == 1 {
+            return self.at_in_units(point);
+        }
+        self.at_in_parts(point)
+    }
+
+    /// The same where a unit is one part.
+    #[inline]
+    pub fn at_in_units(&self, point: Point) -> Point
+        requires unit { self.now.parts ≡ 1 }
+        requires there { IsOnPlane (plane_point (map_numbers self.now) point.x point.y) }
         ensures { result ≡ plane_point (map_numbers self.now) point.x point.y }
     {
         Point {
             x: self.x.at(point.x),
             y: self.y.at(point.y),
+        }
+    }
+
+    /// The same where it may have several.
+    #[inline(never)]
+    pub fn at_in_parts(&self, point: Point) -> Point
+        requires { IsOnPlane (plane_point (map_numbers self.now) point.x point.y) }
+        ensures { result ≡ plane_point (map_numbers self.now) point.x point.y }
+    {
+        Point {
+            x: self.fine_x().at(point.x),
+            y: self.fine_y().at(point.y),
+        }
+    }
+
+    /// The horizontal axis, in parts.
+    pub(crate) fn fine_x(&self) -> FineAxis
+        ensures axis { result.axis ≡ self.now.x }
+        ensures parts { result.parts ≡ self.now.parts }
+    {
+        FineAxis {
+            axis: self.x,
+            parts: self.parts,
+        }
+    }
+
+    /// The vertical axis, in parts.
+    pub(crate) fn fine_y(&self) -> FineAxis
+        ensures axis { result.axis ≡ self.now.y }
+        ensures parts { result.parts ≡ self.now.parts }
+    {
+        FineAxis {
+            axis: self.y,
+            parts: self.parts,
         }
     }
 }

@@ -126,8 +126,8 @@ neither : has_other_fields (replicate 20 0) ≡ false
 neither = refl
 
 -- the start of a plain file of 4 by 3 whose x grows to the left, and of an EMF file whose bounds begin at (5, 6)
-left_extents : (plain_map (record { x = negsuc 3; y = pos 3 })).x ≡ record { window_origin = pos 0; window_extent = negsuc 3; viewport_origin = pos 0; viewport_extent = pos 4; corner = pos 0 }
+left_extents : (plain_map (record { x = negsuc 3; y = pos 3 })).x ≡ record { parts = 1; window_origin = pos 0; window_extent = negsuc 3; viewport_origin = pos 0; viewport_extent = pos 4; corner = pos 0 }
 left_extents = refl
 
-corner_6 : (unscaled_map (record { x = pos 5; y = pos 6 })).y ≡ record { window_origin = pos 0; window_extent = pos 1; viewport_origin = pos 0; viewport_extent = pos 1; corner = pos 6 }
+corner_6 : (unscaled_map (record { x = pos 5; y = pos 6 })).y ≡ record { parts = 1; window_origin = pos 0; window_extent = pos 1; viewport_origin = pos 0; viewport_extent = pos 1; corner = pos 6 }
 corner_6 = refl

@@ -1,4 +1,4 @@
-use Rattle.std.proofs.Common.{◌^◌, ◌≤◌, ℕ, ◌<◌, ◌*◌, arith, ◌*ℤ◌}
+use Rattle.std.proofs.Common.{◌+◌, ◌^◌, ◌≤◌, ℕ, ◌<◌, ◌*◌, arith, ◌*ℤ◌}
 use Rattle.std.specs.Prelude.{FitsSigned, unsigned_abs}
 use Rattle.std.specs.Int.{w64}
 use Rattle.std.proofs.lemmas.Int.{to_z-of_z, fits_signed_mul, unsigned_abs-mul}
@@ -25,7 +25,7 @@ returns-clause-value c =
     simp to_z-of_z
 
 -- the absolute value of the product is at most the product of the bounds
-below : (c : goal.Start) → unsigned_abs (c.args.distance *ℤ c.args.extent) < 2 ^ 63
+below : (c : goal.Start) → unsigned_abs (c.args.distance *ℤ c.args.extent) + 2 ^ 31 ≤ 2 ^ 63
 below c =
     let h : unsigned_abs c.args.distance * unsigned_abs c.args.extent ≤ most * 2 ^ 31 = mul-le _ _ _ _ (within c) c.requires.extent_fits in
     rw (unsigned_abs-mul c.args.distance c.args.extent) (omega (arith, h))

@@ -7,7 +7,7 @@ use Rattle.mapping.proofs.page_map.wide_product.Goals as goal
 
 -- the product fits, by the bounds of its factors
 product_fits : (c : goal.Start) → FitsSigned w128 (c.args.distance *ℤ c.args.extent)
-product_fits c = fits_signed_mul w128 c.args.distance c.args.extent (2 ^ 65) (2 ^ 31) c.requires.distance_fits c.requires.extent_fits (omega arith)
+product_fits c = fits_signed_mul w128 c.args.distance c.args.extent (2 ^ 77) (2 ^ 31) c.requires.distance_fits c.requires.extent_fits (omega arith)
 
 pub overflow_mul-result : goal.overflow_mul-result
 overflow_mul-result c =

@@ -1,5 +1,5 @@
 -- What is not scaled is its distance from the window's origin.
-use Rattle.std.proofs.Common.{◌≡◌, ◌∙◌, ap, sym, rules, to_z}
+use Rattle.std.proofs.Common.{refl, ◌≡◌, ◌∙◌, ap, sym, rules, to_z}
 use Rattle.std.specs.Prelude.{◌+ℤ◌, ◌-ℤ◌, ◌*ℤ◌, FitsSigned}
 use Rattle.std.specs.Int.{w32, w64}
 use Rattle.std.proofs.lemmas.Int.{to_z-of_z}
@@ -21,7 +21,7 @@ there c =
     let extents : axis.viewport_extent ≡ axis.window_extent = simp to_z-of_z at (ap (to_z w32) c.if-self.true) in
     let distance = simp to_z-of_z at c.distance.ensures.value in
     let whole = sym (ap (λ v. floor_div ((c.args.coordinate -ℤ axis.window_origin) *ℤ v) axis.window_extent) extents ∙ floor_of_multiple (c.args.coordinate -ℤ axis.window_origin) axis.window_extent axis.window_has_extent) in
-    scaled_and_moved (axis_numbers axis) c.args.coordinate c.distance.result c.shift.result ((rw same at distance) ∙ whole) c.shift.ensures.value
+    scaled_and_moved (axis_numbers 1 axis) c.args.coordinate c.distance.result c.shift.result refl ((rw same at distance) ∙ whole) c.shift.ensures.value
 
 pub returns-in-Ok-clause-value : goal.returns-in-Ok-clause-value
 returns-in-Ok-clause-value c =

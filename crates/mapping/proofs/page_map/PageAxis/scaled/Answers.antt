@@ -35,5 +35,5 @@ returns c =
     let from = simp to_z-of_z at c.from.ensures in
     let from2 = simp to_z-of_z at c.from-2.ensures in
     let product = simp to_z-of_z at c.product-product.ensures.value in
-    let quotient = simp to_z-of_z at c.floor_quotient.ensures in
+    let quotient = simp to_z-of_z at c.floor_quotient.ensures.value in
     simp to_z-of_z (rw (quotient, product, distance, from, from2) refl)

@@ -1,5 +1,5 @@
 -- The number that is told is what is scaled and moved on.
-use Rattle.std.proofs.Common.{◌≡◌, sym, rules}
+use Rattle.std.proofs.Common.{refl, ◌≡◌, sym, rules}
 use Rattle.std.specs.Prelude.{◌+ℤ◌, FitsSigned}
 use Rattle.std.specs.Int.{w32, w64}
 use Rattle.std.proofs.lemmas.Int.{to_z-of_z}
@@ -14,7 +14,7 @@ there c =
     let coordinate_fits : FitsSigned w32 c.in-Ok.coordinate = search rules in
     let same : c.in-Ok.coordinate ≡ c.args.coordinate = simp to_z-of_z at (c.in-Ok.ensures.1) in
     let scaled = simp to_z-of_z at c.scaled.ensures in
-    scaled_and_moved (axis_numbers axis) c.args.coordinate c.scaled.result c.shift.result (rw same at scaled) c.shift.ensures.value
+    scaled_and_moved (axis_numbers 1 axis) c.args.coordinate c.scaled.result c.shift.result refl (rw same at scaled) c.shift.ensures.value
 
 pub returns-in-Ok-clause-value : goal.returns-in-Ok-clause-value
 returns-in-Ok-clause-value c =

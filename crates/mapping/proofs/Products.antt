@@ -44,6 +44,17 @@ mul_neg c a =
 pub neg_mul : (a c : ℤ) → neg_ℤ a *ℤ c ≡ neg_ℤ (a *ℤ c)
 neg_mul a c = omega (arith, ints, mul_neg c a, *ℤ_comm (neg_ℤ a) c, *ℤ_comm a c)
 
+-- three factors
+pub mul_assoc_ℤ : (a b c : ℤ) → (a *ℤ b) *ℤ c ≡ a *ℤ (b *ℤ c)
+mul_assoc_ℤ (pos zero) b c = ap (λ n. n *ℤ c) (zero-*ℤ b) ∙ zero-*ℤ c ∙ sym (zero-*ℤ (b *ℤ c))
+mul_assoc_ℤ (pos (suc n)) b c =
+    omega (arith, ints, ap (λ m. m *ℤ c) (more_times n b), add_mul (pos n *ℤ b) b c, mul_assoc_ℤ (pos n) b c, more_times n (b *ℤ c))
+mul_assoc_ℤ (negsuc zero) b c =
+    let opposite : negsuc zero *ℤ b ≡ neg_ℤ b = omega (arith, ints) in
+    omega (arith, ints, ap (λ m. m *ℤ c) opposite, neg_mul b c)
+mul_assoc_ℤ (negsuc (suc n)) b c =
+    omega (arith, ints, ap (λ m. m *ℤ c) (less_times n b), sub_mul (negsuc n *ℤ b) b c, mul_assoc_ℤ (negsuc n) b c, less_times n (b *ℤ c))
+
 -- twice a product is the product with twice a number
 pub twice_sum : (a : ℤ) → pos 2 *ℤ a ≡ a +ℤ a
 twice_sum a = omega (arith, ints)
