@@ -6,7 +6,7 @@ use Rattle.mapping.specs.PageMap.{axis_coordinate, axis_numbers, fine_coordinate
 use Rattle.mapping.specs.Plane.{plane_coordinate}
 use Rattle.mapping.specs.declared.fine_axis.FineAxis.{FineAxis}
 use Rattle.mapping.specs.declared.geometry.Point.{Point}
-use Rattle.mapping.specs.declared.page_map.PageAxis.{PageAxis}
+use Rattle.mapping.specs.declared.page_axis.PageAxis.{PageAxis}
 
 -- a number in its 32 bits, and in its 64
 pub in_bits : (z : ℤ) → FitsSigned w32 z → to_z w32 (of_z w32 z) ≡ z

@@ -1,11 +1,12 @@
 -- The numbers of a page map.
-use Rattle.std.specs.Prelude.{ℕ, ℤ, pos, ◌-ℤ◌, ◌*ℤ◌, unsigned_abs}
+use Rattle.std.specs.Prelude.{ℕ, ℤ, pos, ◌-ℤ◌, ◌*ℤ◌, unsigned_abs, Bool, ◌&&◌, nat_eq}
+use Rattle.std.specs.Ordering.{int_eq}
 use Rattle.mapping.specs.Floor.{floor_div}
 use Rattle.mapping.specs.Plane.{AxisNumbers, MapNumbers, plane_coordinate}
 use Rattle.mapping.specs.declared.geometry.Point.{Point}
 use Rattle.mapping.specs.declared.map_mode.MapMode.TheVariants.{Anisotropic, Text}
 use Rattle.mapping.specs.declared.fine_axis.FineAxis.{FineAxis}
-use Rattle.mapping.specs.declared.page_map.PageAxis.{PageAxis}
+use Rattle.mapping.specs.declared.page_axis.PageAxis.{PageAxis}
 use Rattle.mapping.specs.declared.page_map.PageMap.{PageMap}
 
 -- the numbers of an axis whose unit has so many parts
@@ -36,6 +37,11 @@ scaled_distance a v = floor_div ((v -ℤ a.window_origin) *ℤ a.viewport_extent
 
 abbrev pub fine_distance : FineAxis → ℤ → ℤ
 fine_distance a v = floor_div ((v -ℤ a.axis.window_origin) *ℤ pos a.parts *ℤ a.axis.viewport_extent) a.axis.window_extent
+
+-- a page unit is one part of the plane on both axes
+abbrev pub maps_one_to_one : ℕ → PageAxis → PageAxis → Bool
+maps_one_to_one parts x y =
+    nat_eq parts 1 && (int_eq x.viewport_extent x.window_extent && int_eq y.viewport_extent y.window_extent)
 
 -- the numbers of a map, with its mode
 abbrev pub map_numbers : PageMap → MapNumbers

@@ -6,7 +6,7 @@ ghost use Rattle.mapping.specs.Limits.{is_within, plane_limit};
 ghost use Rattle.mapping.specs.Plane.{IsPlaneCoordinate};
 
 use crate::floor::{floor_quotient, wide_floor_quotient};
-use crate::page_map::{
+use crate::page_axis::{
     PageAxis, distance, on_plane, product, wide_distance, wide_on_plane, wide_product,
 };
 

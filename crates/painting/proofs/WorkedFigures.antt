@@ -3,7 +3,7 @@ use Rattle.std.proofs.Common.{◌≡◌, ◌≢◌, ℤ, pos, Bool, true, false,
 use Rattle.mapping.specs.Surface.{Surface}
 use Rattle.mapping.specs.declared.geometry.Point.{Point}
 use Rattle.mapping.specs.declared.map_mode.MapMode.TheVariants.{Text}
-use Rattle.mapping.specs.declared.page_map.PageAxis.{PageAxis}
+use Rattle.mapping.specs.declared.page_axis.PageAxis.{PageAxis}
 use Rattle.mapping.specs.declared.page_map.PageMap.{PageMap}
 use Rattle.dc_stack.specs.Figures.{Figure, all_figures}
 use Rattle.dc_stack.specs.Pieces.{figures_of}

@@ -5,7 +5,7 @@ use Rattle.std.specs.Int.{w32, w64}
 use Rattle.std.proofs.lemmas.Int.{to_z-of_z}
 use Rattle.mapping.specs.PageMap.{axis_numbers}
 use Rattle.mapping.proofs.PageAxisLemmas.{scaled_and_moved}
-use Rattle.mapping.proofs.page_map.PageAxis.at.Goals as goal
+use Rattle.mapping.proofs.page_axis.PageAxis.at.Goals as goal
 
 pub plane_number-requires : goal.plane_number-requires
 plane_number-requires c =

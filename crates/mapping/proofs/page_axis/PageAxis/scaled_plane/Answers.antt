@@ -5,7 +5,7 @@ use Rattle.std.specs.Int.{w32, w64}
 use Rattle.std.proofs.lemmas.Int.{to_z-of_z}
 use Rattle.mapping.specs.PageMap.{axis_coordinate, axis_numbers}
 use Rattle.mapping.proofs.PageAxisLemmas.{scaled_and_moved}
-use Rattle.mapping.proofs.page_map.PageAxis.scaled_plane.Goals as goal
+use Rattle.mapping.proofs.page_axis.PageAxis.scaled_plane.Goals as goal
 
 there : (c : goal.After-on_plane) → c.scaled.result +ℤ c.shift.result ≡ axis_coordinate c.args.self.now c.args.coordinate
 there c =

@@ -3,7 +3,7 @@ use Rattle.std.specs.Prelude.{FitsSigned, unsigned_abs}
 use Rattle.std.specs.Int.{w64}
 use Rattle.std.proofs.lemmas.Int.{to_z-of_z, fits_signed_mul, unsigned_abs-mul}
 use Rattle.std.proofs.lemmas.Nat.{mul-le}
-use Rattle.mapping.proofs.page_map.product.Goals as goal
+use Rattle.mapping.proofs.page_axis.product.Goals as goal
 
 -- the greatest distance between two numbers of 32 bits
 abbrev most : ℕ

@@ -7,7 +7,7 @@ use Rattle.mapping.specs.Floor.{floor_div}
 use Rattle.mapping.specs.PageMap.{axis_coordinate, axis_numbers}
 use Rattle.mapping.proofs.FloorLemmas.{floor_of_multiple}
 use Rattle.mapping.proofs.PageAxisLemmas.{scaled_and_moved}
-use Rattle.mapping.proofs.page_map.PageAxis.plane.Goals as goal
+use Rattle.mapping.proofs.page_axis.PageAxis.plane.Goals as goal
 
 there : (c : goal.After-on_plane) → c.distance.result +ℤ c.shift.result ≡ axis_coordinate c.args.self.now c.args.coordinate
 there c =

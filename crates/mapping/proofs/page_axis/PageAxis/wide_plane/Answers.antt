@@ -5,7 +5,7 @@ use Rattle.std.specs.Int.{w64, w128}
 use Rattle.std.proofs.lemmas.Int.{to_z-of_z}
 use Rattle.mapping.specs.PageMap.{axis_coordinate, axis_numbers}
 use Rattle.mapping.proofs.PageAxisLemmas.{scaled_and_moved}
-use Rattle.mapping.proofs.page_map.PageAxis.wide_plane.Goals as goal
+use Rattle.mapping.proofs.page_axis.PageAxis.wide_plane.Goals as goal
 
 there : (c : goal.After-wide_on_plane) → c.wide_scaled.result +ℤ c.shift.result ≡ axis_coordinate c.args.self.now c.args.coordinate
 there c =

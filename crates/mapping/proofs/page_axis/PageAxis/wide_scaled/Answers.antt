@@ -3,7 +3,7 @@ use Rattle.std.proofs.Common.{◌≡◌, refl, rules}
 use Rattle.std.specs.Prelude.{◌-ℤ◌, FitsSigned}
 use Rattle.std.specs.Int.{w32, w128}
 use Rattle.std.proofs.lemmas.Int.{to_z-of_z}
-use Rattle.mapping.proofs.page_map.PageAxis.wide_scaled.Goals as goal
+use Rattle.mapping.proofs.page_axis.PageAxis.wide_scaled.Goals as goal
 
 pub returns : goal.returns
 returns c =

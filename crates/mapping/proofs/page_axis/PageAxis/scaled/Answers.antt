@@ -5,7 +5,7 @@ use Rattle.std.specs.Int.{w32, w64}
 use Rattle.std.proofs.lemmas.Int.{to_z-of_z}
 use Rattle.mapping.specs.Floor.{floor_div}
 use Rattle.mapping.proofs.FloorLemmas.{floor_of_multiple}
-use Rattle.mapping.proofs.page_map.PageAxis.scaled.Goals as goal
+use Rattle.mapping.proofs.page_axis.PageAxis.scaled.Goals as goal
 
 pub returns-then-self : goal.returns-then-self
 returns-then-self c =

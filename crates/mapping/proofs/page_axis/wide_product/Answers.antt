@@ -3,7 +3,7 @@ use Rattle.std.specs.Prelude.{FitsSigned}
 use Rattle.std.specs.Int.{w128}
 use Rattle.std.proofs.lemmas.Int.{to_z-of_z, fits_signed_mul, unsigned_abs-mul}
 use Rattle.std.proofs.lemmas.Nat.{mul-le}
-use Rattle.mapping.proofs.page_map.wide_product.Goals as goal
+use Rattle.mapping.proofs.page_axis.wide_product.Goals as goal
 
 -- the product fits, by the bounds of its factors
 product_fits : (c : goal.Start) → FitsSigned w128 (c.args.distance *ℤ c.args.extent)
