@@ -1,5 +1,5 @@
 -- Maps by their axes.
-use Rattle.std.proofs.Common.{◌≡◌, Bool, true, false, if◌then◌else◌, ap, refl, sym, ◌∙◌}
+use Rattle.std.proofs.Common.{◌≡◌, Bool, true, false, if◌then◌else◌, ap, refl, ◌∙◌}
 use Rattle.mapping.specs.Plane.{AxisNumbers, MapNumbers}
 use Rattle.mapping.specs.declared.map_mode.MapMode.{MapMode}
 

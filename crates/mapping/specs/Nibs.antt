@@ -2,7 +2,6 @@
 use Rattle.std.specs.Prelude.{◌≡◌, ℕ, ◌-◌, ◌*◌, ◌/◌, ◌≤◌, unsigned_abs, max, Bool, true, ◌&&◌, nat_le}
 use Rattle.std.proofs.lemmas.Bool.{and_from, and_parts, le-leb, leb-true}
 use Rattle.mapping.specs.Plane.{AxisNumbers, MapNumbers}
-use Rattle.mapping.specs.Limits.{IsFrameSide}
 use Rattle.mapping.specs.PlacingLaws.{IsNoLarger, ShowsFrame}
 use Rattle.mapping.specs.Surface.{Surface}
 use Rattle.mapping.specs.declared.nib.Nib.{Nib}

@@ -1,6 +1,5 @@
 -- The numbers of a page map.
-use Rattle.std.specs.Prelude.{ℕ, ℤ, pos, ◌-ℤ◌, ◌*ℤ◌, unsigned_abs, Bool, ◌&&◌, nat_eq}
-use Rattle.std.specs.Ordering.{int_eq}
+use Rattle.std.specs.Prelude.{ℕ, ℤ, pos, ◌-ℤ◌, ◌*ℤ◌, unsigned_abs}
 use Rattle.mapping.specs.Floor.{floor_div}
 use Rattle.mapping.specs.Plane.{AxisNumbers, MapNumbers, plane_coordinate}
 use Rattle.mapping.specs.declared.geometry.Point.{Point}
@@ -37,11 +36,6 @@ scaled_distance a v = floor_div ((v -ℤ a.window_origin) *ℤ a.viewport_extent
 
 abbrev pub fine_distance : FineAxis → ℤ → ℤ
 fine_distance a v = floor_div ((v -ℤ a.axis.window_origin) *ℤ pos a.parts *ℤ a.axis.viewport_extent) a.axis.window_extent
-
--- a page unit is one part of the plane on both axes
-abbrev pub maps_one_to_one : ℕ → PageAxis → PageAxis → Bool
-maps_one_to_one parts x y =
-    nat_eq parts 1 && (int_eq x.viewport_extent x.window_extent && int_eq y.viewport_extent y.window_extent)
 
 -- the numbers of a map, with its mode
 abbrev pub map_numbers : PageMap → MapNumbers

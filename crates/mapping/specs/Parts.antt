@@ -1,5 +1,5 @@
 -- How many parts of the plane a unit has, if the plane is fine: so many that no frame is coarse beside a surface.
-use Rattle.std.specs.Prelude.{◌≡◌, ℕ, ◌^◌, ◌*◌, ◌≤◌, ℤ, pos, ◌+ℤ◌, ◌-ℤ◌, ◌*ℤ◌, List, [], ◌∷◌, if◌then◌else◌, max, nat_le, unsigned_abs, ◌/◌}
+use Rattle.std.specs.Prelude.{◌≡◌, ℕ, ◌^◌, ◌*◌, ◌≤◌, ℤ, ◌+ℤ◌, ◌-ℤ◌, ◌*ℤ◌, List, [], ◌∷◌, if◌then◌else◌, max, nat_le, unsigned_abs, ◌/◌}
 use Rattle.mapping.specs.Floor.{floor_div}
 use Rattle.mapping.specs.Limits.{IsFrameSide}
 use Rattle.mapping.specs.Nibs.{scaled_width}

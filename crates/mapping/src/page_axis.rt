@@ -1,7 +1,6 @@
 //! The axes of page maps: where page coordinates land on the plane on one axis.
 
 ghost use Rattle.std.specs.Prelude.{◌≡◌, ◌≢◌, ◌+◌, ◌^◌, ◌<◌, ◌≤◌, pos, ◌+ℤ◌, ◌-ℤ◌, ◌*ℤ◌, unsigned_abs, SomeIff, is_some};
-ghost use Rattle.std.specs.Ordering.{int_eq};
 ghost use Rattle.mapping.specs.Floor.{floor_div};
 ghost use Rattle.mapping.specs.Limits.{is_within, plane_limit};
 ghost use Rattle.mapping.specs.Plane.{IsPlaneCoordinate};
@@ -27,6 +26,7 @@ pub struct PageAxis {
 }
 
 impl PageAxis {
+    ghost use Rattle.mapping.specs.OneToOne.{has_same_extents};
     ghost use Rattle.mapping.specs.PageMap.{axis_coordinate, axis_numbers, placeable_axis, unscaled_axis};
 
     /// An initial axis of a placeable file: the box's width or height is the window, and the frame's is the viewport.
@@ -104,7 +104,7 @@ impl PageAxis {
 
     /// Whether its extents are the same.
     pub(crate) fn has_same_extents(&self) -> bool
-        ensures { result ≡ int_eq self.now.viewport_extent self.now.window_extent }
+        ensures { result ≡ has_same_extents self.now }
     {
         self.viewport_extent == self.window_extent
     }

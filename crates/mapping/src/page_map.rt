@@ -1,6 +1,7 @@
 //! Page maps: where page coordinates land on the plane.
 
 ghost use Rattle.std.specs.Prelude.{◌≡◌, ◌≢◌, ◌^◌, ◌<◌, ◌≤◌, pos, unsigned_abs, SomeIff, is_some, IsTrue};
+ghost use Rattle.mapping.specs.OneToOne.{maps_one_to_one};
 
 use crate::fine_axis::FineAxis;
 use crate::geometry::Point;
@@ -30,7 +31,7 @@ pub struct PageMap {
 
 impl PageMap {
     ghost use Rattle.mapping.specs.Plane.{IsOnPlane, is_on_plane, plane_point};
-    ghost use Rattle.mapping.specs.PageMap.{axis_numbers, map_in_parts, map_numbers, maps_one_to_one, placeable_map, plain_map, unscaled_map};
+    ghost use Rattle.mapping.specs.PageMap.{axis_numbers, map_in_parts, map_numbers, placeable_map, plain_map, unscaled_map};
 
     /// The map of these axes.
     pub(crate) fn new(mode: MapMode, parts: u16, x: PageAxis, y: PageAxis) -> PageMap

@@ -75,7 +75,16 @@ axis origin = record {
 }
 
 abbrev map_at : ℤ → PageMap
-map_at column = record { mode = Text; parts = 1; x = axis column; y = axis (pos 0); some_parts = omega arith; few_parts = omega arith }
+map_at column = record {
+  mode = Text;
+  one_to_one = true;
+  parts = 1;
+  x = axis column;
+  y = axis (pos 0);
+  some_parts = omega arith;
+  few_parts = omega arith;
+  tested = refl;
+}
 
 abbrev piece : PiecePoints → ℤ → Verb → FigureEnd → Piece
 piece points column verb end = record { points = points; map = map_at column; verb = verb; end = end }

@@ -1,9 +1,8 @@
 -- The dividend in parts is a multiple of the divisor, and what remains in parts.
-use Rattle.std.proofs.Common.{◌≡◌, ◌≢◌, ◌+◌, ◌^◌, ◌<◌, ◌≤◌, ℤ, pos, ◌+ℤ◌, ◌-ℤ◌, ◌*ℤ◌, ap, arith, rules, sym, ◌∙◌}
+use Rattle.std.proofs.Common.{◌^◌, ◌<◌, ◌≤◌, ℤ, ◌+ℤ◌, arith, rules}
 use Rattle.std.specs.Prelude.{FitsSigned, unsigned_abs}
 use Rattle.std.specs.Int.{w64}
 use Rattle.std.proofs.lemmas.Int.{ints, fits_signed_from_abs, to_z-of_z}
-use Rattle.mapping.specs.Floor.{floor_div}
 use Rattle.mapping.proofs.RestLemmas.{floor_in_parts}
 use Rattle.mapping.proofs.fine_axis.quotient_in_parts.Goals as goal
 

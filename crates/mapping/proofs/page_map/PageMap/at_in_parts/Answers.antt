@@ -1,5 +1,5 @@
 -- A point's coordinates are those of its axes.
-use Rattle.std.proofs.Common.{◌≡◌, ℤ, ◌∙◌, FitsSigned, to_z, of_z, rules, subst, sym}
+use Rattle.std.proofs.Common.{ℤ, ◌∙◌, FitsSigned, to_z, of_z, rules, subst, sym}
 use Rattle.std.specs.Int.{w32}
 use Rattle.mapping.specs.PageMap.{axis_numbers}
 use Rattle.mapping.specs.Plane.{IsPlaneCoordinate, plane_coordinate}

@@ -1,5 +1,5 @@
 -- A point is on the plane if both coordinates are.
-use Rattle.std.proofs.Common.{◌≡◌, ℤ, ◌∙◌, FitsSigned, to_z, of_z, ap, rules, subst, sym}
+use Rattle.std.proofs.Common.{ℤ, ◌∙◌, FitsSigned, to_z, of_z, ap, rules, subst, sym}
 use Rattle.std.specs.Int.{w32, w64}
 use Rattle.mapping.specs.Limits.{is_within, plane_limit}
 use Rattle.mapping.specs.PageMap.{axis_numbers}

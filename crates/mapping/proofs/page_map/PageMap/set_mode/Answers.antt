@@ -1,5 +1,5 @@
 -- In text mode both axes have unit extents, and otherwise they stay as they are.
-use Rattle.std.proofs.Common.{◌≡◌, inl, inr, refl}
+use Rattle.std.proofs.Common.{◌∙◌, inl, inr, refl}
 use Rattle.mapping.specs.declared.map_mode.MapMode.TheVariants.{Text}
 use Rattle.mapping.proofs.MapLemmas.{same_map}
 use Rattle.mapping.proofs.page_map.PageMap.set_mode.Goals as goal
@@ -9,9 +9,9 @@ pub returns : goal.returns
 returns c = elim c.match-mode.branch [
   | in-Text w ↦
       let parts = c.args.self.now.parts in
-      rw (w.self-is, w.in-Text.is) (same_map Text _ _ _ _ (w.with_unit_extents-self.ensures parts) (w.with_unit_extents-self-in-Text.ensures parts))
+      c.new.ensures ∙ rw (w.t-6-is, w.in-Text.is) (same_map Text _ _ _ _ (w.with_unit_extents.ensures parts) (w.with_unit_extents-in-Text.ensures parts))
   | in-Isotropic w ↦ elim w.in-Isotropic.is [
-    | inl e ↦ rw (w.self-is, e) refl
-    | inr e ↦ rw (w.self-is, e) refl
+    | inl e ↦ c.new.ensures ∙ rw (w.t-6-is, e) refl
+    | inr e ↦ c.new.ensures ∙ rw (w.t-6-is, e) refl
   ]
 ]

@@ -1,5 +1,5 @@
 -- Both axes have the new extent.
-use Rattle.std.proofs.Common.{◌≡◌, Bool, true, rules, refl, sym, FitsSigned, ◌∙◌}
+use Rattle.std.proofs.Common.{◌≡◌, true, rules, FitsSigned, ◌∙◌}
 use Rattle.std.specs.Int.{w32}
 use Rattle.std.proofs.lemmas.Int.{to_z-of_z}
 use Rattle.mapping.specs.MapSettings.{may_set_extents}
@@ -13,7 +13,7 @@ returns-clause-map c =
     let y_fits : FitsSigned w32 c.args.extent.y = search rules in
     let x_origin_fits : FitsSigned w32 map.x.window_origin = search rules in
     let y_origin_fits : FitsSigned w32 map.y.window_origin = search rules in
-    let x = simp to_z-of_z at (c.with_window-self.ensures map.parts) in
-    let y = simp to_z-of_z at (c.with_window-self-2.ensures map.parts) in
+    let x = simp to_z-of_z at (c.with_window.ensures map.parts) in
+    let y = simp to_z-of_z at (c.with_window-2.ensures map.parts) in
     let may : may_set_extents map.mode ≡ true = search rules in
-    same_map map.mode _ _ _ _ x y ∙ chosen (may_set_extents map.mode) _ _ may
+    c.new.ensures ∙ same_map map.mode _ _ _ _ x y ∙ chosen (may_set_extents map.mode) _ _ may

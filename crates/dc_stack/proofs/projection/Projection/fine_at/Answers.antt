@@ -1,7 +1,7 @@
 use Rattle.mapping.specs.PageMap.{map_numbers}
 use Rattle.mapping.specs.PlaceOf.{surface_of}
 use Rattle.dc_stack.specs.Mapped.{mapped_point}
-use Rattle.dc_stack.proofs.projection.Projection.at_in_parts.Goals as goal
+use Rattle.dc_stack.proofs.projection.Projection.fine_at.Goals as goal
 
 pub at_in_parts-requires : goal.at_in_parts-requires
 at_in_parts-requires c =
