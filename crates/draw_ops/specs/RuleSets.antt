@@ -1,8 +1,12 @@
--- What rules allow.
+-- Sets of rules, and what they allow.
 use Rattle.std.specs.Prelude.{Bool, true, false}
 use Rattle.draw_ops.specs.declared.rules.Profile.{Profile}
 use Rattle.draw_ops.specs.declared.rules.Profile.TheVariants.{Core, Print}
 use Rattle.draw_ops.specs.declared.rules.Rules.{Rules}
+
+-- the core profile, which is the default
+abbrev pub core_rules : Rules
+core_rules = record { profile = Core; allowed = record { held_deletion = false; emf_plus = false } }
 
 -- the plane counts parts of the device's pixels
 abbrev pub is_fine : Profile → Bool

@@ -8,8 +8,11 @@ use Rattle.meta_headers.specs.declared.opened.Opened.{Opened}
 abbrev pub opened_of : Opened → OpenedValue
 opened_of o = record {
   format = o.format;
+  rules = o.rules;
   frame_width = o.frame.width;
   frame_height = o.frame.height;
+  fine_width = o.fine_frame.width;
+  fine_height = o.fine_frame.height;
   map = map_numbers o.start_map;
   handles = o.handles;
   notes = notes_in o.notes;

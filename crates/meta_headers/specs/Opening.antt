@@ -51,4 +51,4 @@ HasContentOf format records content = IsContent (framing_of format) (meaning_of 
 
 -- the surface of this size that shows an opened file's frame
 abbrev pub surface_for : OpenedValue → ℕ → ℕ → Surface
-surface_for o width height = record { width = width; height = height; frame_width = o.frame_width; frame_height = o.frame_height }
+surface_for o width height = record { width = width; height = height; frame_width = o.fine_width; frame_height = o.fine_height }

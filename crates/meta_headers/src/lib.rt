@@ -24,6 +24,6 @@ mod source;
 mod standard_header;
 
 pub use laws::{file_law, opening_law};
-pub use open::open_file;
+pub use open::{open_file, open_file_by};
 pub use opened::{FileFormat, Opened};
 pub use source::Source;
