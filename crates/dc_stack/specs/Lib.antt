@@ -4,6 +4,7 @@ pub mod Path
 pub mod State
 pub mod StockObjects
 pub mod Selecting
+pub mod Deleting
 pub mod SavedStates
 pub mod Mapped
 pub mod Drawing
