@@ -2,6 +2,7 @@ pub mod Clip
 pub mod Figures
 pub mod Path
 pub mod State
+pub mod StartFor
 pub mod StockObjects
 pub mod Selecting
 pub mod Deleting

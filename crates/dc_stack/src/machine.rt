@@ -1,7 +1,6 @@
 //! The machine: the playing state, and how one operation changes it.
 
 ghost use Rattle.std.specs.Prelude.{◌≡◌, ◌≤◌, ◌<◌, ◌⊎◌, [], IfErr, IfOk, IfSome, None, OnErr, OnOk, length};
-ghost use Rattle.mapping.specs.PageMap.{map_numbers};
 ghost use Rattle.mapping.specs.PlaceOf.{surface_of};
 ghost use Rattle.draw_ops.specs.Operation.{Operation};
 ghost use Rattle.draw_ops.specs.OperationOf.{operation_of};
@@ -9,7 +8,7 @@ ghost use Rattle.draw_ops.specs.declared.fault.Fault.TheVariants.{OutOfMemory};
 ghost use Rattle.dc_stack.specs.MachineState.{GoesOn, HasNib, HasStepped, IsDrawingOf, IsExtentOf, IsUnchanged, LacksCapacity, BorrowsPainted, MachineState, Plays, RejectsStep, ReportsUndrawn, outcome};
 ghost use Rattle.dc_stack.specs.Draws.{IsPlacedDraw};
 ghost use Rattle.dc_stack.specs.Needs.{no_needs};
-ghost use Rattle.dc_stack.specs.State.{start_state};
+ghost use Rattle.dc_stack.specs.StartFor.{start_for};
 
 mod adding;
 mod clipping;
@@ -76,7 +75,7 @@ impl<'a, T: Table<'a>> Machine<'a, T> {
 
     /// The machine at the start of a file that is shown on a surface. Its table has no objects. Allocates no memory.
     pub fn new(alloc: Global, opened: &Opened<'_>, place: Place, mut table: T) -> Machine<'a, T>
-        ensures state { result.state ≡ start_state opened.now.rules (map_numbers opened.now.start_map) (T.state table).kind }
+        ensures state { result.state ≡ start_for opened.now (T.state table).kind }
         ensures surface { result.surface ≡ surface_of place }
         ensures needs { result.needs ≡ no_needs }
         ensures painted { result.painted ≡ [] }
@@ -101,7 +100,7 @@ impl<'a, T: Table<'a>> Machine<'a, T> {
 
     /// Goes back to the start of a file, on the same surface. The capacity is kept.
     pub fn restart(&mut self, opened: &Opened<'_>)
-        ensures state { self.new.state ≡ start_state opened.now.rules (map_numbers opened.now.start_map) self.old.state.table_kind }
+        ensures state { self.new.state ≡ start_for opened.now self.old.state.table_kind }
         ensures painted { self.new.painted ≡ [] }
         ensures extent { self.new.plane_extent ≡ None }
         ensures needs { self.new.needs ≡ no_needs }

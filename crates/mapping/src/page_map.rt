@@ -119,7 +119,7 @@ impl PageMap {
     #[inline]
     fn moved_plane(&self, point: Point) -> Option<Point>
         requires { IsTrue self.now.one_to_one }
-        ensures point { let there = plane_point (map_numbers self.now) point.x point.y in SomeIff result (IsOnPlane there) there }
+        ensures point { let p = plane_point (map_numbers self.now) point.x point.y in SomeIff result (IsOnPlane p) p }
         ensures test { is_some result ≡ is_on_plane (plane_point (map_numbers self.now) point.x point.y) }
     {
         let Some(x) = self.x.moved_plane(point.x) else {
