@@ -207,7 +207,7 @@ by_them rules (Ok it) holds is f = is_it holds (by_rules rules it) (f it (is it 
 by_them rules (Err fault) holds is f = no_fault holds fault
 
 module _ (laws : PartLaws) where
-  framed : (width height : ℕ) → IsFrameSide width → IsFrameSide height → Frame
+  abbrev framed : (width height : ℕ) → IsFrameSide width → IsFrameSide height → Frame
   framed width height wide high = record { width = width; height = height; wide = wide; high = high }
 
   -- a side times its parts
