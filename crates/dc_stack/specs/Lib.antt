@@ -15,6 +15,7 @@ pub mod Modes
 pub mod Next
 pub mod Needs
 pub mod FaultLaws
+pub mod DeletionLaws
 pub mod Pieces
 pub mod Values
 pub mod Boxes

@@ -1,5 +1,6 @@
-//! The law of how faults depend on the surface.
+//! Laws of operations: how faults depend on the surface, and deletions on the rules.
 
+ghost use Rattle.dc_stack.specs.DeletionLaws.{DeletionLaws};
 ghost use Rattle.dc_stack.specs.FaultLaws.{FaultLaws};
 
 use mapping::{nib_law, placing_law};
@@ -13,3 +14,9 @@ pub fn fault_law()
     placing_law();
     nib_law();
 }
+
+/// Where the rules don't allow it, as by the core profile, a selected object can't be deleted, and a deletion only takes
+/// the object from the table.
+pub fn deletion_law()
+    ensures { DeletionLaws }
+{}

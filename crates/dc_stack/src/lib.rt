@@ -44,7 +44,7 @@ mod stock;
 pub use clip::{Clip, ClipBox};
 pub use dc::Dc;
 pub use draw::{Draw, FigurePoints, Mark, Painting, PlaneBlit};
-pub use laws::fault_law;
+pub use laws::{deletion_law, fault_law};
 pub use machine::{MAX_SAVED_STATES, Machine};
 pub use modes::Modes;
 pub use needs::Needs;
