@@ -3,7 +3,7 @@ use Rattle.std.proofs.Common.{◌≡◌, ℕ, ◌+◌, ◌<◌, Bool, true, fals
 use Rattle.std.specs.List.{All, list_any}
 use Rattle.std.specs.Option.{option_or}
 use Rattle.std.proofs.Math.ListN.{set}
-use Rattle.std.proofs.lemmas.List.{drop-set-lt, drop_more, get_or-map, length-map, take_more, take_more_set}
+use Rattle.std.proofs.lemmas.List.{append-nil, drop-set-lt, drop_all, drop_more, get_or-map, length-map, take_all, take_more, take_more_set}
 use Rattle.mapping.specs.Surface.{Surface}
 use Rattle.draw_ops.specs.RuleSets.{allows_held_deletion}
 use Rattle.draw_ops.specs.declared.record_fault.RecordFault.{RecordFault}
@@ -52,10 +52,10 @@ neither false b e = (refl, e)
 
 same_selected : (index : ℕ) (s : Selections) → selects index s ≡ false → without_index index s ≡ s
 same_selected index s e =
-    let pens = neither (is_index_of index s.pen.index) _ e in
-    let brushes = neither (is_index_of index s.brush.index) _ pens.1 in
-    let others = neither (is_index_of index s.font) _ brushes.1 in
-    rw (same_index index s.pen.index pens.0, same_index index s.brush.index brushes.0, same_index index s.font others.0, same_index index s.palette others.1) refl
+    let palettes = neither (is_index_of index s.pen.index || is_index_of index s.brush.index || is_index_of index s.font) (is_index_of index s.palette) e in
+    let fonts = neither (is_index_of index s.pen.index || is_index_of index s.brush.index) (is_index_of index s.font) palettes.0 in
+    let tools = neither (is_index_of index s.pen.index) (is_index_of index s.brush.index) fonts.0 in
+    rw (same_index index s.pen.index tools.0, same_index index s.brush.index tools.1, same_index index s.font fonts.1, same_index index s.palette palettes.1) refl
 
 pub same_dc : (index : ℕ) (dc : DcValue) → selects index dc.selected ≡ false → dc_without index dc ≡ dc
 same_dc index dc e = rw (same_selected index dc.selected e) refl
@@ -74,18 +74,18 @@ not_held index state e =
 
 -- a deletion has no fault by the surface, and one of a selected object needs leave
 held : (taken use_ allowed : Bool) → allowed ≡ false → taken ≡ true → use_ ≡ true → option_or (if taken then (if use_ && not allowed then Some HeldObject else None) else Some NoSuchHandle) None ≡ Some HeldObject
-held taken use_ allowed no there selected = rw (no, there, selected) refl
+held taken use_ allowed leave there selected = rw (leave, there, selected) refl
 
 unselected : (taken use_ allowed : Bool) → allowed ≡ false → option_or (if taken then (if use_ && not allowed then Some HeldObject else None) else Some NoSuchHandle) None ≡ None → use_ ≡ false
-unselected true false allowed no e = refl
-unselected true true true no e = absurd (cc no)
-unselected true true false no e = absurd (cc e)
-unselected false use_ allowed no e = absurd (cc e)
+unselected true false allowed leave e = refl
+unselected true true true leave e = absurd (cc leave)
+unselected true true false leave e = absurd (cc e)
+unselected false use_ allowed leave e = absurd (cc e)
 
 pub deletion_laws : DeletionLaws
 deletion_laws = record {
-  held = λ index state s no taken selected. held (is_taken index state.slots) (is_in_use index state) (allows_held_deletion state.rules) no taken selected;
-  others = λ index state s no fine. not_held index state (unselected (is_taken index state.slots) (is_in_use index state) (allows_held_deletion state.rules) no fine);
+  held = λ index state s leave taken selected. held (is_taken index state.slots) (is_in_use index state) (allows_held_deletion state.rules) leave taken selected;
+  others = λ index state s leave fine. not_held index state (unselected (is_taken index state.slots) (is_in_use index state) (allows_held_deletion state.rules) leave fine);
 }
 
 -- states whose clips are the same as before are placed on the surface as before
@@ -98,3 +98,9 @@ placed_same s before after same all i d within =
     sym (get_or-map clip after i d d.clip within) ∙ ap (λ (cs : List Clip). get_or cs i d.clip) same ∙ get_or-map clip before i d d.clip inside
     in
     subst (λ (c : Clip). IsPlacedOn s c) (sym e) (all i d inside)
+
+-- what was written to a slice of all states is all that there is
+pub written : (n : ℕ) (items after : List Dc) → n ≡ length items → length after ≡ length items → take n (after ++ drop (length after) items) ≡ after
+written n items after all same =
+    let rest : drop (length after) items ≡ [] = drop_all (length after) items (omega (arith, same)) in
+    ap (λ (ds : List Dc). take n (after ++ ds)) rest ∙ ap (take n) (append-nil after) ∙ take_all n after (omega (arith, all, same))

@@ -68,6 +68,7 @@ impl<'a, T: Table<'a>> Machine<'a, T> {
 
     /// Removes an object from the table. If it is selected, and the rules allow that, what has it selected keeps its
     /// values.
+    #[tactic(auto, using(crate::proofs::DeletionLemmas::not_held))]
     pub(super) fn delete(&mut self, handle: Handle) -> Result<Option<Rect>, Fault>
         ensures plays { Plays (delete handle.0) self.old (undrawn result) self.new }
         ensures goes_on { GoesOn self.old self.new }
