@@ -39,7 +39,7 @@ mark_of Mpc2 = number_at (codes "MPC2") 0 4
 abbrev pub version_of : ℕ → Option Version
 version_of n = if n == mark_of Mpc1 then Some Mpc1 else (if n == mark_of Mpc2 then Some Mpc2 else None)
 
--- the first four bytes of a certificate by the print profile, as a number
+-- the first four bytes of a certificate of the print profile, as a number
 unfoldable pub print_mark : ℕ
 print_mark = number_at (codes "MPC3") 0 4
 
@@ -50,7 +50,7 @@ is_by_print bytes = number_at bytes 0 4 == print_mark
 abbrev pub allowed_by : ℕ → Allowances
 allowed_by n = record { held_deletion = n % 2 == 1; emf_plus = nat_le 2 n }
 
--- the rules by which a certificate was made: by the print profile what it allows follows its first four bytes
+-- the rules under which a certificate was made; under the print profile what is allowed follows its first four bytes
 abbrev pub rules_in : List ℕ → Rules
 rules_in bytes = if is_by_print bytes then record { profile = Print; allowed = allowed_by (number_at bytes 4 4) } else core_rules
 
@@ -150,7 +150,7 @@ read_version (Some version) bytes =
     if nat_lt (length bytes) head_size then Err ShortCertificate
     else (if not (is_bounded bytes) then Err BadBound else read_whole version bytes)
 
--- the same for a certificate by the print profile: behind what it allows it is one of the later version behind its mark
+-- the same for a certificate of the print profile: behind what it allows it is one of the later version behind its mark
 abbrev pub read_print : List ℕ → Result CertificateValue Fault
 read_print bytes =
     if nat_lt (length bytes) 44 then Err ShortCertificate

@@ -60,7 +60,7 @@ text_with version head count entries =
 abbrev pub head_of : CertificateValue → HeadValue
 head_of c = record { max_width = c.max_width; max_height = c.max_height; writes = c.writes; needs = c.needs }
 
--- the bytes of a certificate by the core profile
+-- the bytes of a certificate of the core profile
 abbrev pub certificate_text : CertificateValue → List ℕ
 certificate_text c = text_with c.version (head_of c) (length c.entries) (flat_map (entry_text c.version) c.entries)
 
@@ -68,7 +68,7 @@ certificate_text c = text_with c.version (head_of c) (length c.entries) (flat_ma
 abbrev pub allowed_number : Allowances → ℕ
 allowed_number allowed = (if allowed.held_deletion then 1 else 0) + (if allowed.emf_plus then 2 else 0)
 
--- the bytes of a certificate by rules: by the print profile its own mark and what is allowed stand in place of the first
+-- the bytes of a certificate under rules: under the print profile its own mark and what is allowed stand in place of the first
 -- four bytes
 abbrev pub text_by : Rules → CertificateValue → List ℕ
 text_by rules c =

@@ -64,7 +64,7 @@ impl<'a> Certificate<'a> {
         }
     }
 
-    /// The same for a certificate by the print profile. Four bytes say what it allows.
+    /// The same for a certificate of the print profile. Four bytes say what it allows.
     fn read_print(bytes: &'a [u8]) -> Result<Certificate<'a>, Fault>
         requires { is_by_print bytes.now ≡ true }
         ensures value { read_print bytes.now ≡ result_map certificate_of result }

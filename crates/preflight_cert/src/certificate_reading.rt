@@ -24,13 +24,13 @@ use point_views::u32_at;
 /// The number of bytes before the entries.
 pub(crate) const HEAD_SIZE: usize = 40;
 
-/// The number of bytes before what a certificate by the print profile allows: `MPC3`.
+/// The number of bytes before what a certificate of the print profile allows: `MPC3`.
 pub(crate) const MARK_SIZE: usize = 4;
 
-/// The number of bytes before the entries of a certificate by the print profile.
+/// The number of bytes before the entries of a certificate of the print profile.
 pub(crate) const PRINT_HEAD_SIZE: usize = MARK_SIZE + HEAD_SIZE;
 
-/// The first four bytes of a certificate by the print profile, as a number.
+/// The first four bytes of a certificate of the print profile, as a number.
 pub(crate) const PRINT_MARK: u32 = 0x3343_504d;
 
 /// The greatest number of what a certificate allows.
