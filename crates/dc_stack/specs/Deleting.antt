@@ -1,4 +1,4 @@
--- Deleting objects: what has one selected keeps its values, as of a stock object.
+-- Deleting objects: a state that has one selected keeps its values without its index.
 use Rattle.std.specs.Prelude.{ℕ, suc, ◌^◌, ◌-◌, min, if◌then◌else◌, map, Option, None}
 use Rattle.object_tables.specs.Slots.{without_object}
 use Rattle.dc_stack.specs.Selecting.{is_in_use, is_index_of}
@@ -27,12 +27,12 @@ dc_without index dc = record {
   clip = dc.clip;
 }
 
--- a count plus 1, up to the greatest number of 32 bits
+-- a count plus 1, but at most 2^32 - 1
 abbrev pub counted : ℕ → ℕ
 counted n = min (suc n) (2 ^ 32 - 1)
 
--- The state after an object is deleted. Nothing has it selected any more; what had keeps its values, and then the
--- deletion is counted.
+-- The state after an object is deleted. Nothing has it selected any more. If something had, that keeps its values, and
+-- the deletion is counted.
 abbrev pub after_deleting : ℕ → State → State
 after_deleting index state = record {
   dc = dc_without index state.dc;

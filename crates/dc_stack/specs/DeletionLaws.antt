@@ -1,4 +1,4 @@
--- Deletions where the rules don't allow those of selected objects.
+-- Deletions under rules that don't allow deleting a selected object.
 use Rattle.std.specs.Prelude.{◌≡◌, ℕ, true, false, Some, None}
 use Rattle.draw_ops.specs.Operation.{delete}
 use Rattle.draw_ops.specs.RuleSets.{allows_held_deletion}

@@ -17,7 +17,7 @@ use Rattle.dc_stack.specs.Clip.{ClipValue, unclipped}
 use Rattle.dc_stack.specs.Path.{Path, no_path}
 use Rattle.dc_stack.specs.declared.modes.Modes.{Modes}
 
--- a selected object, and its index, unless it is a stock object
+-- a selected object, and its index, unless it is a stock object or was deleted while it was selected
 pub record Selection (A : Type 0) : Type 0 where
   pub object : A
   pub index : Option ℕ
@@ -39,7 +39,7 @@ pub record DcValue : Type 0 where
   pub clip : ClipValue
 
 -- The whole state: what saving copies, the objects by their indexes, how new ones get theirs, the saved states, the
--- oldest first, the path, the rules, and how often a selected object was deleted.
+-- oldest first, the path, the rules, and how often a selected object was deleted, up to 2^32 - 1.
 pub record State : Type 0 where
   pub dc : DcValue
   pub slots : Slots
@@ -77,7 +77,7 @@ start_dc map = record {
   clip = unclipped;
 }
 
--- the state before the first record of a file with this initial map and this kind of table, by these rules
+-- the state before the first record of a file with this initial map and this kind of table, under these rules
 abbrev pub start_state : Rules → MapNumbers → TableKind → State
 start_state rules map kind = record {
   dc = start_dc map;

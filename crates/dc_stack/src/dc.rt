@@ -40,7 +40,7 @@ impl<'a> Dc<'a> {
         }
     }
 
-    /// Keeps the values of what has this index selected, without the index.
+    /// Drops this index. What has it selected keeps its values.
     pub(crate) fn let_go(&mut self, handle: Handle)
         ensures value { dc_value self.new ≡ dc_without handle.0 (dc_value self.old) }
         ensures clip { self.new.clip ≡ self.old.clip }

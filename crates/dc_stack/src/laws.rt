@@ -15,7 +15,7 @@ pub fn fault_law()
     nib_law();
 }
 
-/// Where the rules don't allow it, as by the core profile, a selected object can't be deleted, and a deletion only takes
+/// Where the rules don't allow it, as under the core profile, a selected object can't be deleted, and a deletion only takes
 /// the object from the table.
 pub fn deletion_law()
     ensures { DeletionLaws }

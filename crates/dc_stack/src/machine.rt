@@ -281,7 +281,7 @@ impl<'a, T: Table<'a>> Machine<'a, T> {
         &self.dc
     }
 
-    /// How many objects were deleted while they were selected, since the start.
+    /// How many objects were deleted while they were selected, since the start, at most 2^32 - 1.
     pub fn held_deletions(&self) -> u32
         ensures { result ≡ self.now.state.held_deletions }
     {

@@ -9,8 +9,8 @@ ghost use Rattle.dc_stack.specs.State.{stock_selections};
 use draw_ops::{Brush, Handle, Object, Pen};
 use mapping::Colour;
 
-/// The selected objects, each with its index, unless it is a stock object. Nothing is drawn with the font and the
-/// palette, so only their indexes are stored.
+/// The selected objects, each with its index, unless it is a stock object or was deleted while it was selected. Nothing
+/// is drawn with the font and the palette, so only their indexes are stored.
 #[derive(Clone, Copy, Debug, PartialEq, Eq)]
 pub struct Selected<'a> {
     pub pen: Pen,
@@ -56,7 +56,7 @@ impl<'a> Selected<'a> {
         }
     }
 
-    /// Keeps the values of what has this index selected, without the index.
+    /// Drops this index. What has it selected keeps its values.
     pub(crate) fn let_go(&mut self, handle: Handle)
         ensures { selections_value self.new ≡ without_index handle.0 (selections_value self.old) }
     {

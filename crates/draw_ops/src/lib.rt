@@ -2,7 +2,7 @@
 //!
 //! # What is promised
 //!
-//! - Rules have a fine plane by the print profile alone, and allow more only by that (`Rules::has_fine_plane`,
+//! - Rules have a fine plane under the print profile alone, and allow more only under that (`Rules::has_fine_plane`,
 //!   `allows_held_deletion`, `allows_emf_plus`).
 //! - Each fault has one code and one name, as the table of faults says (`Fault::code`, `Fault::name`, `Fault::number`,
 //!   by `fault_row` and `record_kind_of`).

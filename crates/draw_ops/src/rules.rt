@@ -2,16 +2,16 @@
 
 ghost use Rattle.std.specs.Prelude.{◌≡◌};
 
-/// A set of rules.
+/// Which rules apply.
 #[derive(Clone, Copy, Debug, PartialEq, Eq)]
 pub enum Profile {
-    /// The default. The plane counts the pixels of the device that a file was made on.
+    /// The default. The plane counts the units of a file's frame.
     Core,
-    /// For files that are printed larger than the device they were made on. The plane counts parts of its pixels.
+    /// For surfaces that are larger than the frame. The plane counts parts of a unit of the frame.
     Print,
 }
 
-/// What the print profile plays only if it is allowed.
+/// What the print profile accepts only if it is allowed.
 #[derive(Clone, Copy, Debug, PartialEq, Eq)]
 pub struct Allowances {
     /// The deletion of an object that is selected: what is selected keeps its values.
@@ -20,8 +20,8 @@ pub struct Allowances {
     pub emf_plus: bool,
 }
 
-/// The rules by which a file is opened and played: a profile, and what it allows. The core profile ignores what is
-/// allowed.
+/// The rules under which a file is opened and played: a profile, and what is allowed under it. The core profile ignores
+/// what is allowed.
 #[derive(Clone, Copy, Debug, PartialEq, Eq)]
 pub struct Rules {
     pub profile: Profile,
@@ -29,7 +29,7 @@ pub struct Rules {
 }
 
 impl Allowances {
-    /// Nothing more.
+    /// Nothing is allowed.
     pub const NONE: Allowances = Allowances {
         held_deletion: false,
         emf_plus: false,
@@ -45,7 +45,7 @@ impl Rules {
         allowed: Allowances::NONE,
     };
 
-    /// Whether the plane counts parts of the device's pixels.
+    /// Whether the plane counts parts of a unit of the frame.
     pub fn has_fine_plane(self) -> bool
         ensures { result ≡ has_fine_plane self }
     {

@@ -1,4 +1,4 @@
--- How many parts of the plane a unit has, if the plane is fine: so many that no frame is coarse beside a surface.
+-- How many parts of the plane a unit of the frame has, if the plane is fine.
 use Rattle.std.specs.Prelude.{◌≡◌, ℕ, ◌^◌, ◌*◌, ◌≤◌, ℤ, ◌+ℤ◌, ◌-ℤ◌, ◌*ℤ◌, List, [], ◌∷◌, if◌then◌else◌, max, nat_le, unsigned_abs, ◌/◌}
 use Rattle.mapping.specs.Floor.{floor_div}
 use Rattle.mapping.specs.Limits.{IsFrameSide}
@@ -11,16 +11,16 @@ abbrev pub first_fine : ℕ → List ℕ → ℕ
 first_fine side [] = 1
 first_fine side (parts ∷ fewer) = if nat_le (parts * side) (2 ^ 20) then parts else first_fine side fewer
 
--- the numbers of parts that a unit may have, from the most on, besides 1
+-- the numbers of parts that a unit may have, the greatest first, apart from 1
 abbrev pub part_counts : List ℕ
 part_counts = 4096 ∷ 2048 ∷ 1024 ∷ 512 ∷ 256 ∷ 128 ∷ 64 ∷ 32 ∷ 16 ∷ 8 ∷ 4 ∷ 2 ∷ []
 
--- how many parts a unit has on the fine plane of a frame: as many as its longer side allows
+-- the greatest of 1, 2, 4, .. 4096 with which the frame's longer side has at most 2^20 parts, or 1 if there is none
 abbrev pub fine_parts : Frame → ℕ
 fine_parts frame = first_fine (max frame.width frame.height) part_counts
 
 -- On the fine plane a frame's sides are within the limits of frames, and a unit has from 1 to 4,096 parts. Where a unit
--- is one part, a page coordinate is scaled, rounded down and moved, and a pen's width is scaled by the extents alone.
+-- is one part, plane coordinates and nibs are computed as without parts.
 pub record PartLaws : Type 0 where
   pub some : (frame : Frame) → 1 ≤ fine_parts frame
   pub few : (frame : Frame) → fine_parts frame ≤ 4096

@@ -6,7 +6,7 @@ use Rattle.mapping.specs.Limits.{plane_limit, IsWithin, is_within, within_from, 
 use Rattle.mapping.specs.declared.geometry.Point.{Point}
 use Rattle.mapping.specs.declared.map_mode.MapMode.{MapMode}
 
--- the numbers of a page map on one axis. The plane counts `parts` for each unit of the device
+-- the numbers of a page map on one axis; a unit of the frame has `parts` parts of the plane
 pub record AxisNumbers : Type 0 where
   pub parts : ℕ
   pub window_origin : ℤ
@@ -21,9 +21,9 @@ pub record MapNumbers : Type 0 where
   pub x : AxisNumbers
   pub y : AxisNumbers
 
--- The plane coordinate of a page coordinate: its distance from the window's origin, in parts, is scaled from the
--- window's extent to the viewport's and rounded down, and the viewport's origin is added, in parts too. The frame's
--- corner is the origin of the plane.
+-- The plane coordinate of a page coordinate. Its distance from the window's origin is scaled from the window's extent to
+-- the viewport's, counted in parts and rounded down. The viewport's origin, relative to the frame's corner, is added in
+-- parts.
 abbrev pub plane_coordinate : AxisNumbers → ℤ → ℤ
 plane_coordinate n v =
     floor_div ((v -ℤ n.window_origin) *ℤ pos n.parts *ℤ n.viewport_extent) n.window_extent

@@ -1,4 +1,4 @@
-//! One axis of a page map whose units have several parts: where its coordinates land on the plane.
+//! One axis of a page map with its number of parts: where its coordinates land on the plane.
 
 ghost use Rattle.std.specs.Prelude.{◌≡◌, ◌≢◌, ◌+◌, ◌^◌, ◌<◌, ◌≤◌, pos, ◌+ℤ◌, ◌-ℤ◌, ◌*ℤ◌, unsigned_abs, SomeIff, is_some};
 ghost use Rattle.mapping.specs.Floor.{floor_div};
@@ -10,7 +10,7 @@ use crate::page_axis::{
     PageAxis, distance, on_plane, product, wide_distance, wide_on_plane, wide_product,
 };
 
-/// A distance in units from which on 64 bits may be too few for its parts.
+/// Scaled distances of this many units or more lie off the plane, whatever the number of parts.
 const FAR: u64 = 1 << 45;
 
 /// One axis of a page map, and how many parts a unit has.
@@ -71,8 +71,8 @@ impl FineAxis {
         wide_on_plane(self.wide_scaled(coordinate), self.shift())
     }
 
-    /// The scaled distance of a coordinate from the window's origin in parts, rounded down, from the same in units: the
-    /// parts of its units, and those of the remainder.
+    /// The scaled distance of a coordinate from the window's origin in parts, rounded down, from the one in units
+    /// (`whole`): the parts of the whole units plus those of the remainder.
     fn in_parts(&self, coordinate: i32, whole: i64) -> i64
         requires whole { whole ≡ scaled_distance self.now.axis coordinate }
         requires near { unsigned_abs whole < 2 ^ 45 }

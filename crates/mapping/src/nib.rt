@@ -106,14 +106,14 @@ fn times(one: u32, other: u32) -> u64
     u64::from(one) * u64::from(other)
 }
 
-/// A length times the surface's width or height, divided. Done in 64 bits if the product fits.
-fn scaled(length: u64, surface_side: u32, whole: u64) -> u128
+/// A length times a surface's width or height in parts, divided. Done in 64 bits if the product fits.
+fn scaled(length: u64, fine_side: u32, whole: u64) -> u128
     requires { 1 ≤ whole }
-    ensures { result ≡ length * surface_side / whole }
+    ensures { result ≡ length * fine_side / whole }
 {
-    match length.checked_mul(u64::from(surface_side)) {
+    match length.checked_mul(u64::from(fine_side)) {
         Some(part) => u128::from(part / whole),
-        None => u128::from(length) * u128::from(surface_side) / u128::from(whole),
+        None => u128::from(length) * u128::from(fine_side) / u128::from(whole),
     }
 }
 

@@ -13,14 +13,14 @@ use crate::page_axis::PageAxis;
 ///
 /// # Guarantees
 ///
-/// - A unit of the device has from 1 to 4,096 parts.
+/// - A unit of the frame has from 1 to 4,096 parts.
 #[derive(Clone, Copy, Debug, PartialEq, Eq)]
 pub struct PageMap {
     pub mode: MapMode,
-    /// Whether a page unit is one part of the plane on both axes: a unit of the device is one part, and an axis's
-    /// extents are the same. Most maps are such maps, and one test is then enough for a point.
+    /// Whether nothing is scaled: a unit of the frame is one part, and on each axis both extents are the same. Most
+    /// maps are such maps, and one test is then enough for a point.
     pub one_to_one: bool,
-    /// How many parts of the plane a unit of the device has.
+    /// How many parts of the plane a unit of the frame has.
     pub parts: u16,
     pub x: PageAxis,
     pub y: PageAxis,
@@ -90,7 +90,7 @@ impl PageMap {
         )
     }
 
-    /// The same map with so many parts a unit.
+    /// The same map with this many parts to a unit of the frame.
     pub fn in_parts(self, parts: u16) -> PageMap
         requires some { 1 ≤ parts }
         requires few { parts ≤ 4096 }
@@ -115,7 +115,7 @@ impl PageMap {
         self.scaled_plane(x, y)
     }
 
-    /// The same for a point of 32 bits, where a page unit is one part.
+    /// The same for a point of 32 bits, on a map that scales nothing.
     #[inline]
     fn moved_plane(&self, point: Point) -> Option<Point>
         requires { IsTrue self.now.one_to_one }
@@ -143,7 +143,7 @@ impl PageMap {
         self.plane_in_parts(x, y)
     }
 
-    /// The same where a unit of the device is one part.
+    /// The same where a unit of the frame is one part.
     fn plane_in_units(&self, x: i64, y: i64) -> Option<Point>
         requires { self.now.parts ≡ 1 }
         ensures point { let there = plane_point (map_numbers self.now) x y in SomeIff result (IsOnPlane there) there }
@@ -158,7 +158,7 @@ impl PageMap {
         Some(Point { x, y })
     }
 
-    /// The same where it may have several.
+    /// The same for any number of parts.
     fn plane_in_parts(&self, x: i64, y: i64) -> Option<Point>
         ensures point { let there = plane_point (map_numbers self.now) x y in SomeIff result (IsOnPlane there) there }
         ensures test { is_some result ≡ is_on_plane (plane_point (map_numbers self.now) x y) }
@@ -172,7 +172,7 @@ impl PageMap {
         Some(Point { x, y })
     }
 
-    /// The plane point of a page point that doesn't leave the plane, where a page unit is one part.
+    /// The plane point of a page point that doesn't leave the plane, on a map that scales nothing.
     #[inline]
     pub fn moved(&self, point: Point) -> Point
         requires test { IsTrue self.now.one_to_one }
@@ -185,7 +185,7 @@ impl PageMap {
         }
     }
 
-    /// The same on any map where a unit of the device is one part.
+    /// The plane point of a page point that doesn't leave the plane, where a unit of the frame is one part.
     #[inline]
     pub fn at_in_units(&self, point: Point) -> Point
         requires unit { self.now.parts ≡ 1 }
@@ -198,7 +198,7 @@ impl PageMap {
         }
     }
 
-    /// The same where it may have several.
+    /// The plane point of a page point that doesn't leave the plane, for any number of parts.
     pub fn at_in_parts(&self, point: Point) -> Point
         requires { IsOnPlane (plane_point (map_numbers self.now) point.x point.y) }
         ensures { result ≡ plane_point (map_numbers self.now) point.x point.y }

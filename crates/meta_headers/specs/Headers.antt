@@ -7,8 +7,8 @@ use Rattle.draw_ops.specs.declared.note.Note.{Note}
 use Rattle.draw_ops.specs.declared.rules.Rules.{Rules}
 use Rattle.meta_headers.specs.declared.opened.FileFormat.{FileFormat}
 
--- an opened file: the rules by which it is opened, its frame's size in units and in parts of the plane, its initial
--- map, the number of object indexes that it may use, if the format gives one, and the notes of its headers
+-- an opened file: its format, the rules under which it is opened, its frame's size in units and in parts of the plane,
+-- its initial map, the number of object indexes that it may use, if the format gives one, and the notes of its headers
 pub record OpenedValue : Type 0 where
   pub format : FileFormat
   pub rules : Rules

@@ -4,7 +4,7 @@ use Rattle.draw_ops.specs.NoteSet.{notes_in}
 use Rattle.meta_headers.specs.Headers.{OpenedValue}
 use Rattle.meta_headers.specs.declared.opened.Opened.{Opened}
 
--- the value of an opened file, part by part
+-- the value of an opened file, field by field
 abbrev pub opened_of : Opened → OpenedValue
 opened_of o = record {
   format = o.format;

@@ -8,8 +8,8 @@ use Rattle.meta_headers.specs.ByRules.{opened_by}
 use Rattle.meta_headers.specs.Headers.{OpenedValue}
 use Rattle.meta_headers.specs.Opening.{opened, surface_for}
 
--- A file that opens has a frame whose size is within the limits, by any rules. If the file is a list of bytes, its
--- handle count, if any, has 16 bits.
+-- A file that opens has a frame whose size is within the limits, under any rules. If the file is a list of bytes, its
+-- handle count, if any, has 16 bits. Under the core rules a file opens as without rules.
 pub record OpeningLaws : Type 0 where
   pub frame : (file : List ℕ) (o : OpenedValue) (width height : ℕ) → opened file ≡ Ok o → ShowsFrame (surface_for o width height)
   pub handles :

@@ -13,8 +13,8 @@ pub fn file_law()
     content_law();
 }
 
-/// A file that opens has a frame with a width and height from 1 to 2^28, by any rules, and a handle count of 16 bits, if
-/// it has one. By the rules of the core profile it opens as `open_file` opens it.
+/// A file that opens has a frame with a width and height from 1 to 2^28, under any rules, and a handle count of 16 bits,
+/// if it has one. Under the core rules it opens as `open_file` opens it.
 pub fn opening_law()
     ensures { OpeningLaws }
 {

@@ -4,8 +4,8 @@
 //!
 //! - A file is opened as its first bytes say, or rejected with the first fault of its headers (`open_file`, by
 //!   `opened`).
-//! - By other rules a file opens with the same faults, and its frame and first page map count the parts of pixels that
-//!   these rules define (`open_file_by`, `Opened::by`, by `opened_by`). By the core profile a pixel is one part, and the
+//! - Under other rules a file opens with the same faults, and its frame and first page map count the parts of units that
+//!   these rules define (`open_file_by`, `Opened::by`, by `opened_by`). Under the core profile a unit is one part, and the
 //!   file opens as without rules (`opening_law`).
 //! - An opened file's source has what its records mean, from record 0 on (`Opened::source`, by `HasContentOf`).
 //! - A file opens in only one way, and its records have only one content (`file_law`). The size of its frame and its

@@ -41,7 +41,7 @@ pub fn open_file(file: &[u8]) -> Result<Opened<'_>, Fault>
     Err(Fault::NotMetafile)
 }
 
-/// Opens a file by these rules. It is rejected as by any others.
+/// Opens a file under these rules. The faults are the same under all.
 pub fn open_file_by(rules: Rules, file: &[u8]) -> Result<Opened<'_>, Fault>
     ensures opened { opened_by rules file.entry.now ≡ result_map opened_of result }
     ensures records { IfOk result (λ o. o.records.now ≡ record_bytes o.format file.entry.now) }

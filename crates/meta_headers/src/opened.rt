@@ -25,11 +25,11 @@ pub enum FileFormat {
 #[derive(Clone, Copy, Debug, PartialEq, Eq)]
 pub struct Opened<'a> {
     pub format: FileFormat,
-    /// The rules by which it is opened.
+    /// The rules under which it is opened.
     pub rules: Rules,
-    /// The part of the device that a surface shows. Its sides count the device's pixels.
+    /// What a surface shows. Its sides count units: pixels of the device, or units of a placeable file's box.
     pub frame: Frame,
-    /// The same on the plane, whose parts its sides count. By the core profile a pixel is one part.
+    /// The same frame, with its sides counted in parts of the plane. Under the core profile a unit is one part.
     pub fine_frame: Frame,
     /// The page map before the first record.
     pub start_map: PageMap,
@@ -47,7 +47,7 @@ impl<'a> Opened<'a> {
     ghost use Rattle.meta_headers.specs.Opening.{HasContentOf};
     ghost use Rattle.meta_headers.specs.SourceContent.{source_content};
 
-    /// The same file, opened by other rules.
+    /// The same file, opened under other rules.
     pub fn by(self, rules: Rules) -> Opened<'a>
         ensures value { opened_of result ≡ by_rules rules (opened_of self.entry) }
         ensures records { result.records.now ≡ self.entry.records.now }
@@ -64,7 +64,7 @@ impl<'a> Opened<'a> {
         }
     }
 
-    /// How many parts of the plane a pixel of the device has: 1 by the core profile.
+    /// How many parts of the plane a unit of the frame has.
     pub fn parts(&self) -> u16
         ensures { result ≡ self.now.start_map.parts }
     {
@@ -84,7 +84,7 @@ impl<'a> Opened<'a> {
     }
 }
 
-/// How many parts of the plane a pixel of the device has by these rules.
+/// How many parts of the plane a unit of the frame has under these rules.
 fn parts_by(rules: Rules, frame: &Frame) -> u16
     ensures value { result ≡ parts_by rules frame.now.width frame.now.height }
     ensures some { 1 ≤ result }
@@ -98,7 +98,7 @@ fn parts_by(rules: Rules, frame: &Frame) -> u16
     }
 }
 
-/// A frame whose sides count the plane's parts.
+/// The frame, with its sides counted in parts under these rules.
 fn frame_by(rules: Rules, frame: &Frame) -> Frame
     ensures width { result.width ≡ frame.now.width * parts_by rules frame.now.width frame.now.height }
     ensures height { result.height ≡ frame.now.height * parts_by rules frame.now.width frame.now.height }

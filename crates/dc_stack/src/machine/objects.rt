@@ -91,7 +91,7 @@ impl<'a, T: Table<'a>> Machine<'a, T> {
         }
     }
 
-    /// Lets the current state and all saved ones keep the values of a selected object, without its index.
+    /// Drops an index from the current state and all saved ones, which keep its values, and counts the deletion.
     fn let_go(&mut self, handle: Handle)
         ensures { IsLetGo handle.0 self.old self.new }
     {
@@ -128,7 +128,7 @@ fn any_has(saved: &[Dc<'_>], handle: Handle) -> bool
     saved.iter().any(|dc| dc.selected.has(handle))
 }
 
-/// Lets all saved states keep the values of a selected object, without its index.
+/// Drops an index from all saved states, which keep its values.
 fn all_let_go(saved: &mut [Dc<'_>], handle: Handle)
     ensures values { map dc_value saved.new ≡ map (dc_without handle.0) (map dc_value saved.old) }
     ensures clips { map (λ dc. dc.clip) saved.new ≡ map (λ dc. dc.clip) saved.old }
