@@ -50,11 +50,15 @@ pub record HeadValue : Type 0 where
   pub writes : ℕ
   pub needs : Needs
 
--- the signature, the size, the most pixels written, the needs and the number of entries, followed by the entries' bytes
+-- the size, the most pixels written, the needs and the number of entries, followed by the entries' bytes
+abbrev pub numbers_with : HeadValue → ℕ → List ℕ → List ℕ
+numbers_with head count entries =
+    number_text head.max_width ++ (number_text head.max_height
+    ++ (to_le_bytes w64 head.writes ++ needs_text head.needs (number_text count ++ entries)))
+
+-- the same behind the signature
 abbrev pub text_with : Version → HeadValue → ℕ → List ℕ → List ℕ
-text_with version head count entries =
-    mark_text version ++ (number_text head.max_width ++ (number_text head.max_height
-    ++ (to_le_bytes w64 head.writes ++ needs_text head.needs (number_text count ++ entries))))
+text_with version head count entries = mark_text version ++ numbers_with head count entries
 
 -- the numbers of a certificate
 abbrev pub head_of : CertificateValue → HeadValue
