@@ -257,10 +257,10 @@ core_text bytes c all h =
 
 -- what is allowed, as its number
 number_allowed : (n : ℕ) → n ≤ 3 → allowed_number (allowed_by n) ≡ n
-number_allowed 0 few = refl
-number_allowed 1 few = refl
-number_allowed 2 few = refl
-number_allowed 3 few = refl
+number_allowed zero few = refl
+number_allowed (suc zero) few = refl
+number_allowed (suc (suc zero)) few = refl
+number_allowed (suc (suc (suc zero))) few = refl
 number_allowed (suc (suc (suc (suc n)))) few = absurd (omega (arith, few))
 
 print_prefix : (bytes : List ℕ) → number_at bytes 0 4 ≡ print_mark → number_text (number_at bytes 0 4) ++ drop 4 bytes ≡ bytes → codes "MPC3" ++ drop 4 bytes ≡ bytes

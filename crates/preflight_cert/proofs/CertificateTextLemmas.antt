@@ -251,13 +251,13 @@ few_allowed allowed = few allowed.held_deletion allowed.emf_plus
     few false true = omega arith
     few false false = omega arith
 
+abbrev allowing : Bool → Bool → Allowances
+allowing held emf = record { held_deletion = held; emf_plus = emf }
+
 allowed_back : (allowed : Allowances) → allowed_by (allowed_number allowed) ≡ allowed
 allowed_back allowed = back allowed.held_deletion allowed.emf_plus
   where
-    abbrev both : Bool → Bool → Allowances
-    both held emf = record { held_deletion = held; emf_plus = emf }
-
-    back : (held emf : Bool) → allowed_by ((if held then 1 else 0) + (if emf then 2 else 0)) ≡ both held emf
+    back : (held emf : Bool) → allowed_by ((if held then 1 else 0) + (if emf then 2 else 0)) ≡ allowing held emf
     back true true = refl
     back true false = refl
     back false true = refl
@@ -285,13 +285,13 @@ module _ (c : CertificateValue) (h : IsCertificate c) (wide : c.version ≡ Mpc2
       (ap (λ (version : Version). read_version (Some version) (numbered_text (allowed_number allowed) c)) (sym wide) ∙ version_back (allowed_number allowed) c h)
 
 -- the bytes under rules are read back
+abbrev text_where : Bool → Allowances → CertificateValue → List ℕ
+text_where fine allowed c = if fine then codes "MPC3" ++ (number_text (allowed_number allowed) ++ drop 4 (certificate_text c)) else certificate_text c
+
 pub reads_back : (rules : Rules) (c : CertificateValue) → IsCertificate c → (has_fine_plane rules ≡ true → c.version ≡ Mpc2) → read_certificate (text_by rules c) ≡ Ok c
 reads_back rules c h wide = by_profile (has_fine_plane rules) refl
   where
-    abbrev by : Bool → List ℕ
-    by fine = if fine then codes "MPC3" ++ (number_text (allowed_number rules.allowed) ++ drop 4 (certificate_text c)) else certificate_text c
-
-    by_profile : (fine : Bool) → has_fine_plane rules ≡ fine → read_certificate (by fine) ≡ Ok c
+    by_profile : (fine : Bool) → has_fine_plane rules ≡ fine → read_certificate (text_where fine rules.allowed c) ≡ Ok c
     by_profile true e = rw (behind_mark c) (fine_back c h (wide e) rules.allowed)
     by_profile false e = core_back c h
 
@@ -308,16 +308,16 @@ unfolding print_mark
 marked_core Mpc1 rest = refl
 marked_core Mpc2 rest = refl
 
+marked_print : (rest : List ℕ) → is_by_print (codes "MPC3" ++ rest) ≡ true
+unfolding print_mark
+marked_print rest = refl
+
 allowed_in : (allowed : Allowances) (rest : List ℕ) → rules_in (codes "MPC3" ++ (number_text (allowed_number allowed) ++ rest)) ≡ ruled Print allowed
 allowed_in allowed rest =
     let few = few_allowed allowed in
     let here : number_at (codes "MPC3" ++ (number_text (allowed_number allowed) ++ rest)) 4 4 ≡ allowed_number allowed = omega (arith, few) in
-    let print : is_by_print (codes "MPC3" ++ (number_text (allowed_number allowed) ++ rest)) ≡ true = by_print (number_text (allowed_number allowed) ++ rest) in
+    let print : is_by_print (codes "MPC3" ++ (number_text (allowed_number allowed) ++ rest)) ≡ true = marked_print (number_text (allowed_number allowed) ++ rest) in
     rw (print, here) (ap (ruled Print) (allowed_back allowed))
-  where
-    by_print : (rest : List ℕ) → is_by_print (codes "MPC3" ++ rest) ≡ true
-    unfolding print_mark
-    by_print rest = refl
 
 pub rules_back : (rules : Rules) (c : CertificateValue) → has_fine_plane rules ≡ true → rules_in (text_by rules c) ≡ rules
 rules_back rules c fine =

@@ -46,6 +46,7 @@ impl<'a> Certificate<'a> {
     /// - `ShortCertificate` if entries are missing;
     /// - `TrailingBytes` if bytes follow the entries;
     /// - `BadBound` if the width or height of a nib isn't from 1 to 4,096.
+    #[tactic(auto, unfolding(crate::specs::CertificateReading::print_mark))]
     pub fn read(bytes: &'a [u8]) -> Result<Certificate<'a>, Fault>
         ensures value { read_certificate bytes.now ≡ result_map certificate_of result }
         ensures rules { IfOk result (λ c. c.rules ≡ rules_in bytes.now) }
@@ -65,6 +66,7 @@ impl<'a> Certificate<'a> {
     }
 
     /// The same for a certificate of the print profile. Four bytes say what it allows.
+    #[tactic(auto, unfolding(crate::specs::CertificateReading::print_mark))]
     fn read_print(bytes: &'a [u8]) -> Result<Certificate<'a>, Fault>
         requires { is_by_print bytes.now ≡ true }
         ensures value { read_print bytes.now ≡ result_map certificate_of result }
