@@ -76,16 +76,34 @@ not_held index state e =
 held : (taken use_ allowed : Bool) → allowed ≡ false → taken ≡ true → use_ ≡ true → option_or (if taken then (if use_ && not allowed then Some HeldObject else None) else Some NoSuchHandle) None ≡ Some HeldObject
 held taken use_ allowed leave there selected = rw (leave, there, selected) refl
 
-unselected : (taken use_ allowed : Bool) → allowed ≡ false → option_or (if taken then (if use_ && not allowed then Some HeldObject else None) else Some NoSuchHandle) None ≡ None → use_ ≡ false
-unselected true false allowed leave e = refl
-unselected true true true leave e = absurd (cc leave)
-unselected true true false leave e = absurd (cc e)
-unselected false use_ allowed leave e = absurd (cc e)
+permitted : (taken use_ allowed : Bool) → allowed ≡ true → taken ≡ true → option_or (if taken then (if use_ && not allowed then Some HeldObject else None) else Some NoSuchHandle) None ≡ None
+permitted taken true allowed leave there = rw (leave, there) refl
+permitted taken false allowed leave there = rw there refl
+
+-- what lets go of an index doesn't have it
+other : (index : ℕ) (kept : Option ℕ) → is_index_of index (other_index index kept) ≡ false
+other index kept = by_test (is_index_of index kept) refl
+  where
+    by_test : (same : Bool) → is_index_of index kept ≡ same → is_index_of index (if same then None else kept) ≡ false
+    by_test true e = refl
+    by_test false e = e
+
+unselected : (index : ℕ) (s : Selections) → selects index (without_index index s) ≡ false
+unselected index s = rw (other index s.pen.index, other index s.brush.index, other index s.font, other index s.palette) refl
+
+unsaved : (index : ℕ) (saved : List DcValue) → list_any (λ (dc : DcValue). selects index dc.selected) (map (dc_without index) saved) ≡ false
+unsaved index [] = refl
+unsaved index (dc ∷ saved) = rw (unselected index dc.selected) (unsaved index saved)
+
+let_go : (index : ℕ) (state : State) → is_in_use index (after_deleting index state) ≡ false
+let_go index state = rw (unselected index state.dc.selected) (unsaved index state.saved)
 
 pub deletion_laws : DeletionLaws
 deletion_laws = record {
   held = λ index state s leave taken selected. held (is_taken index state.slots) (is_in_use index state) (allows_held_deletion state.rules) leave taken selected;
-  others = λ index state s leave fine. not_held index state (unselected (is_taken index state.slots) (is_in_use index state) (allows_held_deletion state.rules) leave fine);
+  allowed = λ index state s leave taken. permitted (is_taken index state.slots) (is_in_use index state) (allows_held_deletion state.rules) leave taken;
+  let_go = let_go;
+  others = not_held;
 }
 
 -- states whose clips are the same as before are placed on the surface as before

@@ -1,4 +1,4 @@
--- Deletions under rules that don't allow deleting a selected object.
+-- Deletions of objects that are selected, and of others.
 use Rattle.std.specs.Prelude.{◌≡◌, ℕ, true, false, Some, None}
 use Rattle.draw_ops.specs.Operation.{delete}
 use Rattle.draw_ops.specs.RuleSets.{allows_held_deletion}
@@ -10,12 +10,15 @@ use Rattle.dc_stack.specs.OperationFault.{fault_of}
 use Rattle.dc_stack.specs.Selecting.{is_in_use}
 use Rattle.dc_stack.specs.State.{State, with_slots}
 
--- Where the rules don't allow it, an object that is selected, now or in a saved state, can't be deleted. Any other is
--- only taken from the table.
+-- An object that is selected, now or in a saved state, can be deleted exactly if the rules allow that. Afterwards nothing
+-- has its index selected. An object that isn't selected is only taken from the table.
 pub record DeletionLaws : Type 0 where
   pub held :
       (index : ℕ) (state : State) (s : Surface) → allows_held_deletion state.rules ≡ false → is_taken index state.slots ≡ true
       → is_in_use index state ≡ true → fault_of (delete index) state s ≡ Some HeldObject
+  pub allowed :
+      (index : ℕ) (state : State) (s : Surface) → allows_held_deletion state.rules ≡ true → is_taken index state.slots ≡ true
+      → fault_of (delete index) state s ≡ None
+  pub let_go : (index : ℕ) (state : State) → is_in_use index (next (delete index) state) ≡ false
   pub others :
-      (index : ℕ) (state : State) (s : Surface) → allows_held_deletion state.rules ≡ false → fault_of (delete index) state s ≡ None
-      → next (delete index) state ≡ with_slots (without_object index state.slots) state
+      (index : ℕ) (state : State) → is_in_use index state ≡ false → next (delete index) state ≡ with_slots (without_object index state.slots) state

@@ -15,8 +15,8 @@ pub fn fault_law()
     nib_law();
 }
 
-/// Where the rules don't allow it, as under the core profile, a selected object can't be deleted, and a deletion only takes
-/// the object from the table.
+/// A selected object can be deleted exactly if the rules allow that, which those of the core profile don't. Afterwards
+/// nothing has its index selected. A deletion of any other object only takes it from the table.
 pub fn deletion_law()
     ensures { DeletionLaws }
 {}
