@@ -1,13 +1,15 @@
 -- The numbers of parts.
-use Rattle.std.proofs.Common.{◌≡◌, ◌⊎◌, ℕ, ◌*◌, ◌^◌, ◌≤◌, ℤ, pos, ◌+ℤ◌, ◌-ℤ◌, ◌*ℤ◌, Bool, true, false, ◌&&◌, if◌then◌else◌, List, [], ◌∷◌, arith, inl, inr, refl, ap, ◌∙◌}
+use Rattle.std.proofs.Common.{◌≡◌, ◌⊎◌, ℕ, ◌*◌, ◌^◌, ◌≤◌, ℤ, pos, ◌+ℤ◌, ◌-ℤ◌, ◌*ℤ◌, Bool, true, false, ◌&&◌, if◌then◌else◌, List, [], ◌∷◌, arith, inl, inr, refl, sym, ap, ◌∙◌}
 use Rattle.std.specs.Prelude.{max, nat_le, unsigned_abs, ◌/◌}
 use Rattle.std.specs.List.{list_all}
+use Rattle.std.proofs.Math.Nat.{mul-div-mul_right, mul_assoc, mul_comm}
 use Rattle.std.proofs.lemmas.Bool.{and_parts, leb-true}
 use Rattle.std.proofs.lemmas.Int.{ints}
 use Rattle.std.proofs.lemmas.Nat.{mul-le}
 use Rattle.mapping.specs.Floor.{floor_div}
 use Rattle.mapping.specs.Limits.{IsFrameSide}
 use Rattle.mapping.specs.Nibs.{scaled_width}
+use Rattle.mapping.specs.PageMap.{axis_in_parts}
 use Rattle.mapping.specs.Parts.{PartLaws, fine_parts, first_fine, part_counts}
 use Rattle.mapping.specs.Plane.{AxisNumbers, plane_coordinate}
 use Rattle.mapping.specs.declared.geometry.Frame.{Frame}
@@ -70,12 +72,26 @@ one_part_nib width n surface_side frame_side one =
     let side : n.parts * surface_side ≡ surface_side = rw one (omega arith) in
     ap (λ (s : ℕ). width * unsigned_abs n.viewport_extent * s / (unsigned_abs n.window_extent * frame_side)) side
 
+-- a factor of both the dividend and the divisor
+same_nib : (width parts : ℕ) (n : AxisNumbers) (surface_side frame_side : ℕ) → n.parts ≡ 1 → 1 ≤ parts → scaled_width width (axis_in_parts parts n) surface_side (frame_side * parts) ≡ scaled_width width n surface_side frame_side
+same_nib width parts n surface_side frame_side one some =
+    let viewport = unsigned_abs n.viewport_extent in
+    let window = unsigned_abs n.window_extent in
+    let length = width * viewport in
+    let dividend : length * (parts * surface_side) ≡ length * surface_side * parts = ap (λ (k : ℕ). length * k) (mul_comm parts surface_side) ∙ sym (mul_assoc length surface_side parts) in
+    let divisor : window * (frame_side * parts) ≡ window * frame_side * parts = sym (mul_assoc window frame_side parts) in
+    ap (λ (k : ℕ). k / (window * (frame_side * parts))) dividend ∙ ap (λ (k : ℕ). length * surface_side * parts / k) divisor
+    ∙ mul-div-mul_right (length * surface_side) (window * frame_side) some
+    ∙ sym (one_part_nib width n surface_side frame_side one)
+
 pub part_laws : PartLaws
 part_laws = record {
   some = λ frame. (counts_of frame).0;
   few = λ frame. (counts_of frame).1;
   wide = λ frame. side_fits frame.width (max frame.width frame.height) (fine_parts frame) frame.wide (omega arith) (counts_of frame).0 (fits (max frame.width frame.height) part_counts);
   high = λ frame. side_fits frame.height (max frame.width frame.height) (fine_parts frame) frame.high (omega arith) (counts_of frame).0 (fits (max frame.width frame.height) part_counts);
+  short = λ frame. fits (max frame.width frame.height) part_counts;
   one_part = one_part;
   one_part_nib = one_part_nib;
+  same_nib = same_nib;
 }
