@@ -56,7 +56,7 @@ enum {
 typedef struct metaplay_answer {
     /* One of the outcomes above. */
     uint32_t outcome;
-    /* If the call was rejected, the fault's code, from 1 to 47 (FAULTS.md). */
+    /* If the call was rejected, the fault's code, from 1 to 48 (FAULTS.md). */
     uint32_t fault;
     /* If `has_record_number`, the number of the record that the fault lies in. The first record has number 0. */
     uint32_t record_number;

@@ -49,8 +49,8 @@ impl<'a> SmallestRun<'a> {
     fn new(alloc: Global, opened: &Opened<'a>) -> Result<SmallestRun<'a>, OutOfMemory>
         ensures { IfOk result (λ run. run ≡ start_dry_run (opened_of opened.now)) }
     {
-        let smallest = Place::new(&opened.frame, 1, 1);
-        let largest = Place::new(&opened.frame, MAX_SURFACE_SIDE, MAX_SURFACE_SIDE);
+        let smallest = Place::new(&opened.fine_frame, 1, 1);
+        let largest = Place::new(&opened.fine_frame, MAX_SURFACE_SIDE, MAX_SURFACE_SIDE);
         let table = FileTable::new(alloc, opened.handles);
         let mut machine = Machine::new(alloc, opened, smallest, table);
         let slots = full_slots(opened.handles);

@@ -43,7 +43,7 @@ module _ (answers : AnswerLaws) (sizes : SizeLaws) (contents : ContentIsOne) (cl
   smaller = subst (λ (t : Surface). IsNoLarger t (bound_of o c)) ready.surface ready.ready.within
 
   frame : ShowsFrame (bound_of o c)
-  frame = record { wide = cleared.opened.frame.wide; high = cleared.opened.frame.high }
+  frame = record { wide = cleared.opened.fine_frame.wide; high = cleared.opened.fine_frame.high }
 
   -- the records have one content, and it has no fault on this surface
   one : ExactlyOne (HasContentOf o.format records)

@@ -78,7 +78,11 @@ fn check_opened<'a>(
     ensures number_reported { IfErr result ReportsNumber }
 {
     content_law();
-    let place = Place::new(&opened.frame, certificate.max_width, certificate.max_height);
+    let place = Place::new(
+        &opened.fine_frame,
+        certificate.max_width,
+        certificate.max_height,
+    );
     let table = FileTable::new(alloc, opened.handles);
     let mut machine = Machine::new(alloc, &opened, place, table);
     let totals = match check_steps(

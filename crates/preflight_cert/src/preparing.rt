@@ -73,7 +73,7 @@ pub(crate) fn prepare_opened(
     need_law();
     preparation_law();
     text_law();
-    let place = Place::new(&opened.frame, max_width, max_height);
+    let place = Place::new(&opened.fine_frame, max_width, max_height);
     let table = FileTable::new(alloc, opened.handles);
     let mut machine = Machine::new(alloc, &opened, place, table);
     let Ok(mut draft) = Draft::new(alloc) else {

@@ -19,7 +19,7 @@ returns-clause-few g c =
     let s = c.args.machine.now.surface in
     let old = c.args.canvas.now.writes in
     let new = c.play_rows.new.canvas.writes in
-    let frame : ShowsFrame (bound_of o k) = record { wide = cleared.opened.frame.wide; high = cleared.opened.frame.high } in
+    let frame : ShowsFrame (bound_of o k) = record { wide = cleared.opened.fine_frame.wide; high = cleared.opened.fine_frame.high } in
     let played = c.play_rows.ensures.played in
     let height : s.height ≡ c.args.canvas.now.rows = ap (λ (t : Surface). t.height) c.requires.surface in
     let drawings = drawings_of played.content.steps c.args.machine.now.state in

@@ -27,6 +27,6 @@ unreachable-requires g c =
     let k = certificate_of cleared.certificate in
     let s = c.args.machine.now.surface in
     let content = source_content c.source.result in
-    let frame : ShowsFrame (bound_of o k) = record { wide = cleared.opened.frame.wide; high = cleared.opened.frame.high } in
+    let frame : ShowsFrame (bound_of o k) = record { wide = cleared.opened.fine_frame.wide; high = cleared.opened.fine_frame.high } in
     let never : stop_of content (start_of o) s ≡ None = never_stops c.answer_law.ensures o cleared.opened.records.now k cleared.checked c.size_law.ensures s frame c.requires.ready.within content c.source.ensures.content in
     c.in-Err.ensures.refusal (rw c.requires.start.state never)

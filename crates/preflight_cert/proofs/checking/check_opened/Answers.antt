@@ -14,7 +14,7 @@ use Rattle.preflight_cert.proofs.checking.check_opened.Goals as goal
 pub invariant_of-result : goal.invariant_of-result
 invariant_of-result c =
     let o = opened_of c.args.opened in
-    let state = c.new-machine.ensures.state ∙ ap (λ (kind : TableKind). start_state (map_numbers c.args.opened.start_map) kind) c.new-table.ensures.kind in
+    let state = c.new-machine.ensures.state ∙ ap (λ (kind : TableKind). start_state c.args.opened.rules (map_numbers c.args.opened.start_map) kind) c.new-table.ensures.kind in
     record {
       checked = cleared c.content_law.ensures o c.args.opened.records.now (certificate_of c.args.certificate)
           (records_accepted (source_content c.source.result) o c.args.opened.records.now (certificate_of c.args.certificate) c.new-machine.result c.source.ensures.content

@@ -20,7 +20,7 @@ finish-requires c =
     let w = c.args.max_width in
     let h = c.args.max_height in
     let m = c.new-machine.result in
-    let state = c.new-machine.ensures.state ∙ ap (λ (kind : TableKind). start_state (map_numbers opened.start_map) kind) c.new-table.ensures.kind in
+    let state = c.new-machine.ensures.state ∙ ap (λ (kind : TableKind). start_state opened.rules (map_numbers opened.start_map) kind) c.new-table.ensures.kind in
     let at : IsAtStart o (surface_for o w h) m = record { state = state; surface = c.new-machine.ensures.surface ∙ c.new-place.ensures.surface; needs = c.new-machine.ensures.needs } in
     let content = source_content c.source.result in
     let made = c.in-Ok-gather.ensures in
@@ -37,7 +37,7 @@ returns-in-Ok-finish c =
     let w = c.args.max_width in
     let h = c.args.max_height in
     let m = c.new-machine.result in
-    let state = c.new-machine.ensures.state ∙ ap (λ (kind : TableKind). start_state (map_numbers opened.start_map) kind) c.new-table.ensures.kind in
+    let state = c.new-machine.ensures.state ∙ ap (λ (kind : TableKind). start_state opened.rules (map_numbers opened.start_map) kind) c.new-table.ensures.kind in
     let at : IsAtStart o (surface_for o w h) m = record { state = state; surface = c.new-machine.ensures.surface ∙ c.new-place.ensures.surface; needs = c.new-machine.ensures.needs } in
     let content = source_content c.source.result in
     let noted = c.of-noted.result.counts in
