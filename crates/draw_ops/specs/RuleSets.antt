@@ -1,5 +1,5 @@
 -- Sets of rules, and what they allow.
-use Rattle.std.specs.Prelude.{Bool, true, false, ◌&&◌, ◌||◌, not}
+use Rattle.std.specs.Prelude.{Bool, true, false, ◌&&◌, ◌||◌, not, if◌then◌else◌}
 use Rattle.draw_ops.specs.declared.rules.Profile.{Profile}
 use Rattle.draw_ops.specs.declared.rules.Profile.TheVariants.{Core, Print}
 use Rattle.draw_ops.specs.declared.rules.Rules.{Rules}
@@ -16,6 +16,10 @@ is_fine Print = true
 -- the plane counts parts of a unit of the frame
 abbrev pub has_fine_plane : Rules → Bool
 has_fine_plane rules = is_fine rules.profile
+
+-- the rules in force: under the core profile nothing is allowed
+abbrev pub in_force : Rules → Rules
+in_force rules = if has_fine_plane rules then rules else core_rules
 
 -- a selected object may be deleted: under the print profile, if that is allowed
 abbrev pub allows_held_deletion : Rules → Bool

@@ -37,7 +37,7 @@ impl Allowances {
 }
 
 impl Rules {
-    ghost use Rattle.draw_ops.specs.RuleSets.{allows_emf_plus, allows_held_deletion, has_fine_plane};
+    ghost use Rattle.draw_ops.specs.RuleSets.{allows_emf_plus, allows_held_deletion, has_fine_plane, in_force};
 
     /// The core profile.
     pub const CORE: Rules = Rules {
@@ -50,6 +50,17 @@ impl Rules {
         ensures { result ≡ has_fine_plane self }
     {
         self.profile == Profile::Print
+    }
+
+    /// The rules in force: under the core profile nothing is allowed.
+    pub fn in_force(self) -> Rules
+        ensures { result ≡ in_force self }
+    {
+        if self.has_fine_plane() {
+            self
+        } else {
+            Rules::CORE
+        }
     }
 
     /// Whether a selected object may be deleted.

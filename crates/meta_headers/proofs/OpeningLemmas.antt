@@ -14,11 +14,11 @@ use Rattle.mapping.specs.Plane.{MapNumbers}
 use Rattle.mapping.specs.declared.geometry.Frame.{Frame}
 use Rattle.draw_ops.specs.Framed.{framed_of}
 use Rattle.draw_ops.specs.Results.{result_map}
-use Rattle.draw_ops.specs.RuleSets.{core_rules, has_fine_plane}
+use Rattle.draw_ops.specs.RuleSets.{core_rules, has_fine_plane, in_force}
 use Rattle.draw_ops.specs.Records.{Record}
 use Rattle.draw_ops.specs.declared.fault.Fault.{Fault}
 use Rattle.draw_ops.specs.declared.rules.Rules.{Rules}
-use Rattle.meta_headers.specs.ByRules.{by_rules}
+use Rattle.meta_headers.specs.OpeningRules.{divided, parts_of_unit, reopened}
 use Rattle.meta_headers.specs.EmfHeader.{bounds_height, bounds_width, emf_file, is_emf, is_emf_header_size, opened_emf}
 use Rattle.meta_headers.specs.OpeningLaws.{OpeningLaws}
 use Rattle.meta_headers.specs.Headers.{OpenedValue, has_version, is_header, is_too_long}
@@ -202,8 +202,8 @@ handles file all =
 
 -- what is opened by rules is what is opened, in parts
 by_them : (rules : Rules) (result : Result OpenedValue Fault) (holds : OpenedValue → Type 0) → HoldsIfOk HasDimensions result
-    → ((it : OpenedValue) → HasDimensions it → holds (by_rules rules it)) → HoldsIfOk holds (result_map (by_rules rules) result)
-by_them rules (Ok it) holds is f = is_it holds (by_rules rules it) (f it (is it refl))
+    → ((it : OpenedValue) → HasDimensions it → holds (reopened rules it)) → HoldsIfOk holds (result_map (reopened rules) result)
+by_them rules (Ok it) holds is f = is_it holds (reopened rules it) (f it (is it refl))
 by_them rules (Err fault) holds is f = no_fault holds fault
 
 module _ (laws : PartLaws) where
@@ -215,7 +215,7 @@ module _ (laws : PartLaws) where
   fine_side true side most plain many = many
   fine_side false side most plain many = record { not_empty = let some = plain.not_empty in omega (arith, some); within = let few = plain.within in omega (arith, few) }
 
-  shows : (rules : Rules) (width height : ℕ) (it : OpenedValue) → HasDimensions it → ShowsFrame (surface_for (by_rules rules it) width height)
+  shows : (rules : Rules) (width height : ℕ) (it : OpenedValue) → HasDimensions it → ShowsFrame (surface_for (reopened rules it) width height)
   shows rules width height it is =
       let frame = framed it.frame_width it.frame_height is.wide is.high in
       record {
@@ -237,18 +237,38 @@ sides_of o width height map rules = record {
   notes = o.notes;
 }
 
-same_core : (o : OpenedValue) → HasDimensions o → by_rules core_rules o ≡ o
-same_core o is =
+same_core : (rules : Rules) → has_fine_plane rules ≡ false → (o : OpenedValue) → HasDimensions o → reopened rules o ≡ o
+same_core rules plain o is =
     let wide : o.frame_width * 1 ≡ o.fine_width = let e = is.fine_width in omega (arith, e) in
     let high : o.frame_height * 1 ≡ o.fine_height = let e = is.fine_height in omega (arith, e) in
-    ap (λ (w : ℕ). sides_of o w (o.frame_height * 1) (map_in_parts 1 o.map) core_rules) wide
+    let parts : parts_of_unit rules o.frame_width o.frame_height ≡ 1 = rw plain at refl in
+    let force : in_force rules ≡ core_rules = rw plain at refl in
+    ap (λ (n : ℕ). divided (in_force rules) n o) parts
+    ∙ ap (λ (r : Rules). divided r 1 o) force
+    ∙ ap (λ (w : ℕ). sides_of o w (o.frame_height * 1) (map_in_parts 1 o.map) core_rules) wide
     ∙ ap (λ (h : ℕ). sides_of o o.fine_width h (map_in_parts 1 o.map) core_rules) high
     ∙ ap (λ (m : MapNumbers). sides_of o o.fine_width o.fine_height m core_rules) is.units
     ∙ ap (λ (r : Rules). sides_of o o.fine_width o.fine_height o.map r) (sym is.core)
 
-core_result : (result : Result OpenedValue Fault) → HoldsIfOk HasDimensions result → result_map (by_rules core_rules) result ≡ result
-core_result (Ok o) is = ap (λ (it : OpenedValue). Ok it) (same_core o (is o refl))
-core_result (Err fault) is = refl
+core_result : (rules : Rules) → has_fine_plane rules ≡ false → (result : Result OpenedValue Fault) → HoldsIfOk HasDimensions result → result_map (reopened rules) result ≡ result
+core_result rules plain (Ok o) is = ap (λ (it : OpenedValue). Ok it) (same_core rules plain o (is o refl))
+core_result rules plain (Err fault) is = refl
+
+-- the rules in force are in force, and a unit has as many parts under them
+reopened_again : (rules : Rules) (fine : Bool) → has_fine_plane rules ≡ fine → (o : OpenedValue) → reopened (in_force rules) o ≡ reopened rules o
+reopened_again rules true e o = ap (λ (r : Rules). reopened r o) (rw e at refl)
+reopened_again rules false e o =
+    let parts : parts_of_unit rules o.frame_width o.frame_height ≡ 1 = rw e at refl in
+    let force : in_force rules ≡ core_rules = rw e at refl in
+    ap (λ (r : Rules). reopened r o) force ∙ sym (ap (λ (n : ℕ). divided (in_force rules) n o) parts ∙ ap (λ (r : Rules). divided r 1 o) force)
+
+again_result : (rules : Rules) (result : Result OpenedValue Fault) → result_map (reopened (in_force rules)) result ≡ result_map (reopened rules) result
+again_result rules (Ok o) = ap (λ (it : OpenedValue). Ok it) (reopened_again rules (has_fine_plane rules) refl o)
+again_result rules (Err fault) = refl
+
+rules_result : (rules : Rules) (result : Result OpenedValue Fault) → HoldsIfOk (λ o. o.rules ≡ in_force rules) (result_map (reopened rules) result)
+rules_result rules (Ok it) = is_it (λ o. o.rules ≡ in_force rules) (reopened rules it) refl
+rules_result rules (Err fault) = no_fault (λ o. o.rules ≡ in_force rules) fault
 
 pub opening_laws : PartLaws → OpeningLaws
 opening_laws laws = record {
@@ -261,5 +281,7 @@ opening_laws laws = record {
   handles = λ file o all opens. handles file all o opens;
   frame_by = λ rules file o width height opens.
       by_them rules (opened file) (λ it. ShowsFrame (surface_for it width height)) (frame file) (shows laws rules width height) o opens;
-  core = λ file. core_result (opened file) (frame file);
+  core = λ rules file plain. core_result rules plain (opened file) (frame file);
+  again = λ rules file. again_result rules (opened file);
+  in_force = λ rules file o opens. rules_result rules (opened file) o opens;
 }

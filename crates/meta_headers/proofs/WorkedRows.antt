@@ -7,9 +7,9 @@ use Rattle.draw_ops.specs.Results.{result_map}
 use Rattle.draw_ops.specs.RuleSets.{core_rules}
 use Rattle.draw_ops.specs.declared.fault.Fault.TheVariants.{NoFrame, NotMetafile, ShortHeader}
 use Rattle.draw_ops.specs.declared.note.Note.TheVariants.{PlaceableChecksum, SizeField}
-use Rattle.draw_ops.specs.declared.rules.Profile.TheVariants.{Print}
+use Rattle.draw_ops.specs.declared.rules.Profile.TheVariants.{Core, Print}
 use Rattle.draw_ops.specs.declared.rules.Rules.{Rules}
-use Rattle.meta_headers.specs.ByRules.{by_rules}
+use Rattle.meta_headers.specs.OpeningRules.{reopened}
 use Rattle.meta_headers.specs.EmfHeader.{bounds_side, emf_file, has_other_bytes}
 use Rattle.meta_headers.specs.Headers.{file_limit, reports_other_size}
 use Rattle.meta_headers.specs.Opening.{opened}
@@ -110,7 +110,7 @@ abbrev print_rules : Rules
 print_rules = record { profile = Print; allowed = record { held_deletion = false; emf_plus = false } }
 
 -- by the print profile a unit of the smallest file has 4,096 parts
-by_print : result_map (by_rules print_rules) (emf_file nil_emf) ≡ Ok (record {
+by_print : result_map (reopened print_rules) (emf_file nil_emf) ≡ Ok (record {
   format = Emf;
   rules = print_rules;
   frame_width = 1;
@@ -122,6 +122,13 @@ by_print : result_map (by_rules print_rules) (emf_file nil_emf) ≡ Ok (record {
   notes = no_notes;
 })
 by_print = refl
+
+-- under the core profile nothing is allowed
+abbrev all_allowed : Rules
+all_allowed = record { profile = Core; allowed = record { held_deletion = true; emf_plus = true } }
+
+by_core : result_map (reopened all_allowed) (emf_file nil_emf) ≡ emf_file nil_emf
+by_core = refl
 
 -- an empty file, and the key of META_PLACEABLE alone
 empty : opened [] ≡ Err NotMetafile

@@ -3,7 +3,7 @@
 ghost use Rattle.std.specs.Prelude.{◌≡◌, IfOk, IfErr};
 ghost use Rattle.draw_ops.specs.Fault.{IsInRecord};
 ghost use Rattle.draw_ops.specs.Results.{result_map};
-ghost use Rattle.meta_headers.specs.ByRules.{opened_by};
+ghost use Rattle.meta_headers.specs.OpeningRules.{opened_by};
 ghost use Rattle.meta_headers.specs.Headers.{is_too_long};
 ghost use Rattle.meta_headers.specs.OpenedOf.{opened_of};
 ghost use Rattle.meta_headers.specs.Opening.{opened, record_bytes};

@@ -2,7 +2,7 @@
 
 ghost use Rattle.std.specs.Prelude.{◌≡◌, ◌*◌, ◌≤◌, length};
 ghost use Rattle.draw_ops.specs.Records.{record_limit};
-ghost use Rattle.meta_headers.specs.ByRules.{parts_by};
+ghost use Rattle.meta_headers.specs.OpeningRules.{parts_of_unit};
 
 use crate::source::Source;
 use draw_ops::{NoteSet, Rules};
@@ -25,7 +25,7 @@ pub enum FileFormat {
 #[derive(Clone, Copy, Debug, PartialEq, Eq)]
 pub struct Opened<'a> {
     pub format: FileFormat,
-    /// The rules under which it is opened.
+    /// The rules in force.
     pub rules: Rules,
     /// What a surface shows. Its sides count units: pixels of the device, or units of a placeable file's box.
     pub frame: Frame,
@@ -42,22 +42,22 @@ pub struct Opened<'a> {
 }
 
 impl<'a> Opened<'a> {
-    ghost use Rattle.meta_headers.specs.ByRules.{by_rules};
+    ghost use Rattle.meta_headers.specs.OpeningRules.{reopened};
     ghost use Rattle.meta_headers.specs.OpenedOf.{opened_of};
     ghost use Rattle.meta_headers.specs.Opening.{HasContentOf};
     ghost use Rattle.meta_headers.specs.SourceContent.{source_content};
 
     /// The same file, opened under other rules.
     pub fn by(self, rules: Rules) -> Opened<'a>
-        ensures value { opened_of result ≡ by_rules rules (opened_of self.entry) }
+        ensures value { opened_of result ≡ reopened rules (opened_of self.entry) }
         ensures records { result.records.now ≡ self.entry.records.now }
     {
         Opened {
             format: self.format,
-            rules,
+            rules: rules.in_force(),
             frame: self.frame,
             fine_frame: frame_by(rules, &self.frame),
-            start_map: self.start_map.in_parts(parts_by(rules, &self.frame)),
+            start_map: self.start_map.in_parts(parts_of_unit(rules, &self.frame)),
             handles: self.handles,
             notes: self.notes,
             records: self.records,
@@ -85,8 +85,8 @@ impl<'a> Opened<'a> {
 }
 
 /// How many parts of the plane a unit of the frame has under these rules.
-fn parts_by(rules: Rules, frame: &Frame) -> u16
-    ensures value { result ≡ parts_by rules frame.now.width frame.now.height }
+fn parts_of_unit(rules: Rules, frame: &Frame) -> u16
+    ensures value { result ≡ parts_of_unit rules frame.now.width frame.now.height }
     ensures some { 1 ≤ result }
     ensures few { result ≤ 4096 }
 {
@@ -100,8 +100,8 @@ fn parts_by(rules: Rules, frame: &Frame) -> u16
 
 /// The frame, with its sides counted in parts under these rules.
 fn frame_by(rules: Rules, frame: &Frame) -> Frame
-    ensures width { result.width ≡ frame.now.width * parts_by rules frame.now.width frame.now.height }
-    ensures height { result.height ≡ frame.now.height * parts_by rules frame.now.width frame.now.height }
+    ensures width { result.width ≡ frame.now.width * parts_of_unit rules frame.now.width frame.now.height }
+    ensures height { result.height ≡ frame.now.height * parts_of_unit rules frame.now.width frame.now.height }
 {
     if rules.has_fine_plane() {
         frame.fine()

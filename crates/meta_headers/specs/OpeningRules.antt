@@ -3,19 +3,19 @@ use Rattle.std.specs.Prelude.{ℕ, ◌*◌, max, if◌then◌else◌, List, Resu
 use Rattle.mapping.specs.PageMap.{map_in_parts}
 use Rattle.mapping.specs.Parts.{first_fine, part_counts}
 use Rattle.draw_ops.specs.Results.{result_map}
-use Rattle.draw_ops.specs.RuleSets.{has_fine_plane}
+use Rattle.draw_ops.specs.RuleSets.{has_fine_plane, in_force}
 use Rattle.draw_ops.specs.declared.fault.Fault.{Fault}
 use Rattle.draw_ops.specs.declared.rules.Rules.{Rules}
 use Rattle.meta_headers.specs.Headers.{OpenedValue}
 use Rattle.meta_headers.specs.Opening.{opened}
 
 -- how many parts a unit has, in a frame of this size: on a fine plane as many as the longer side allows, otherwise 1
-abbrev pub parts_by : Rules → ℕ → ℕ → ℕ
-parts_by rules width height = if has_fine_plane rules then first_fine (max width height) part_counts else 1
+abbrev pub parts_of_unit : Rules → ℕ → ℕ → ℕ
+parts_of_unit rules width height = if has_fine_plane rules then first_fine (max width height) part_counts else 1
 
 -- an opened file under these rules, with this many parts to a unit
-abbrev pub in_parts : Rules → ℕ → OpenedValue → OpenedValue
-in_parts rules parts o = record {
+abbrev pub divided : Rules → ℕ → OpenedValue → OpenedValue
+divided rules parts o = record {
   format = o.format;
   rules = rules;
   frame_width = o.frame_width;
@@ -27,10 +27,10 @@ in_parts rules parts o = record {
   notes = o.notes;
 }
 
--- an opened file under these rules
-abbrev pub by_rules : Rules → OpenedValue → OpenedValue
-by_rules rules o = in_parts rules (parts_by rules o.frame_width o.frame_height) o
+-- an opened file, opened again under these rules
+abbrev pub reopened : Rules → OpenedValue → OpenedValue
+reopened rules o = divided (in_force rules) (parts_of_unit rules o.frame_width o.frame_height) o
 
 -- the result of opening a file under rules; its faults are the same under all rules
 abbrev pub opened_by : Rules → List ℕ → Result OpenedValue Fault
-opened_by rules file = result_map (by_rules rules) (opened file)
+opened_by rules file = result_map (reopened rules) (opened file)
