@@ -1,6 +1,7 @@
 -- What a task writes to its output and to standard error, by how it ends.
 use Rattle.std.specs.Prelude.{◌⊎◌, ℕ, List, Option, codes}
 use Rattle.std.specs.Io.KnownBytes.{Appends, Keeps}
+use Rattle.draw_ops.specs.RuleSets.{core_rules}
 use Rattle.draw_ops.specs.declared.fault.Fault.{Fault}
 use Rattle.canvas.specs.Ppm.{AppendsPrefix}
 use Rattle.preflight_cert.specs.Answer.{IsAnswer, rejects}
@@ -22,8 +23,8 @@ use Rattle.commands.specs.declared.command_end.CommandEnd.TheVariants as end
 -- The text that a task writes when it is done: the image that the file's run makes on white, the prepared certificate,
 -- the report of an accepted one, or the listing of records that end with an end record.
 abbrev pub IsDoneBy : Task → List ℕ → Type 0
-IsDoneBy (show file width height) text = IsRunText file width height (white width height) text
-IsDoneBy (prepare file width height) text = Prepares file width height text
+IsDoneBy (show file width height) text = IsRunText core_rules file width height (white width height) text
+IsDoneBy (prepare file width height) text = Prepares core_rules file width height text
 IsDoneBy (check file certificate) text = ReportsAccepted file certificate text
 IsDoneBy (play file certificate width height) text = IsPlayedText file certificate width height (white width height) text
 IsDoneBy (over file certificate image) text = IsPlayedOverText file certificate image text
@@ -32,8 +33,8 @@ IsDoneBy (list file) text = Lists file Ended text
 -- The fault by which a task is rejected, in a record or in none. A listing reports faults itself, and is never
 -- rejected.
 abbrev pub IsRejectedBy : Task → Option ℕ → Fault → Type 0
-IsRejectedBy (show file width height) number fault = Rejected file width height number fault
-IsRejectedBy (prepare file width height) number fault = Rejected file width height number fault
+IsRejectedBy (show file width height) number fault = Rejected core_rules file width height number fault
+IsRejectedBy (prepare file width height) number fault = Rejected core_rules file width height number fault
 IsRejectedBy (check file certificate) number fault = IsAnswer file certificate (rejects number fault)
 IsRejectedBy (play file certificate width height) number fault = RejectsPlay file certificate width height number fault
 IsRejectedBy (over file certificate image) number fault = RejectsOver file certificate image number fault

@@ -1,6 +1,7 @@
 //! Finds out what is known of a file without a certificate.
 
 ghost use Rattle.std.specs.Prelude.{◌≡◌, ◌↔◌, IfOk, true};
+ghost use Rattle.draw_ops.specs.RuleSets.{core_rules};
 ghost use Rattle.meta_headers.specs.Opening.{opened};
 ghost use Rattle.file_info.specs.Info.{IsInfoOf, IsPlaying, PlaysEverywhere, is_playing, sizes_if};
 
@@ -10,7 +11,7 @@ use crate::paper::Sizes;
 use crate::playing::Playing;
 use crate::sizing::sizes;
 use canvas::OutOfMemory;
-use draw_ops::Fault;
+use draw_ops::{Fault, Rules};
 use mapping::MAX_SURFACE_SIDE;
 use meta_headers::{FileFormat, open_file, opening_law};
 use preflight_cert::{Prepared, run_law, size_law};
@@ -20,10 +21,10 @@ use std::alloc::Global;
 /// largest surface ends. A file whose run there has no fault plays on every surface.
 pub fn file_info(alloc: Global, file: &[u8]) -> Result<FileInfo, OutOfMemory>
     ensures info { IfOk result (IsInfoOf file.now) }
-    ensures plays { IfOk result (λ info. is_playing info.playing ≡ true ↔ PlaysEverywhere file.now) }
+    ensures plays { IfOk result (λ info. is_playing info.playing ≡ true ↔ PlaysEverywhere core_rules file.now) }
 {
     let totals = count_records(alloc, file)?;
-    let playing = playing(alloc, file)?;
+    let playing = playing(alloc, Rules::CORE, file)?;
     Ok(FileInfo {
         format: FileFormat::of(file),
         sizes: sizes_if_opened(file),
@@ -42,15 +43,15 @@ fn sizes_if_opened(file: &[u8]) -> Option<Sizes>
     }
 }
 
-/// How the file's run on the largest surface ends.
-fn playing(alloc: Global, file: &[u8]) -> Result<Playing, OutOfMemory>
-    ensures is { IfOk result (IsPlaying file.now) }
-    ensures everywhere { IfOk result (λ playing. is_playing playing ≡ true ↔ PlaysEverywhere file.now) }
+/// How the file's run under these rules on the largest surface ends.
+fn playing(alloc: Global, rules: Rules, file: &[u8]) -> Result<Playing, OutOfMemory>
+    ensures is { IfOk result (IsPlaying rules file.now) }
+    ensures everywhere { IfOk result (λ playing. is_playing playing ≡ true ↔ PlaysEverywhere rules file.now) }
 {
     opening_law();
     run_law();
     size_law();
-    match Prepared::new(alloc, file, MAX_SURFACE_SIDE, MAX_SURFACE_SIDE) {
+    match Prepared::new(alloc, rules, file, MAX_SURFACE_SIDE, MAX_SURFACE_SIDE) {
         Ok(prepared) => {
             let cleared = prepared.clear();
             Ok(Playing::Plays {

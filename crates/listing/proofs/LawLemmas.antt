@@ -1,5 +1,5 @@
 -- The law of listings, of a file.
-use Rattle.std.proofs.Common.{◌≡◌, ◌≢◌, ℕ, ℤ, unsigned_abs, ◌+◌, ◌==◌, nat_lt, Bool, true, false, ◌&&◌, ◌||◌, not, if◌then◌else◌, List, [], ◌∷◌, length, drop, Option, Some, None, Result, Ok, Err, arith, refl, sym, ap, ◌∙◌}
+use Rattle.std.proofs.Common.{◌≡◌, ◌≢◌, ℕ, ℤ, unsigned_abs, ◌+◌, ◌==◌, nat_lt, Bool, true, false, ◌&&◌, ◌||◌, not, if◌then◌else◌, List, [], ◌∷◌, length, drop, Option, Some, None, Result, Ok, Err, arith, refl, sym, ap, subst, ◌∙◌}
 use Rattle.std.proofs.lemmas.List.Elements.{All-nil}
 use Rattle.std.specs.Option.{option_or}
 use Rattle.mapping.specs.Limits.{IsSurfaceSide, is_frame_side, surface_side_limit}
@@ -12,6 +12,8 @@ use Rattle.draw_ops.specs.RecordContent.{content_of}
 use Rattle.draw_ops.specs.Records.{Framed, FramedInOneWay, Framing, IsFramed}
 use Rattle.draw_ops.specs.declared.fault.Fault.{Fault}
 use Rattle.draw_ops.specs.declared.fault.Fault.TheVariants.{BadHeader, NoFrame, NotMetafile, Record as InRecord, ShortHeader, TooLong}
+use Rattle.draw_ops.specs.RuleSets.{core_rules}
+use Rattle.draw_ops.specs.declared.rules.Rules.{Rules}
 use Rattle.draw_ops.specs.declared.record_fault.RecordFault.{RecordFault}
 use Rattle.draw_ops.specs.declared.record_fault.RecordFault.TheVariants.{BoxTooSmall, NibTooSmall, WrongEntry}
 use Rattle.point_views.specs.Numbers.{number_at}
@@ -20,6 +22,7 @@ use Rattle.meta_headers.specs.EmfHeader.{bounds_height, bounds_width, emf_file, 
 use Rattle.meta_headers.specs.Headers.{OpenedValue, has_version, is_header, is_too_long}
 use Rattle.meta_headers.specs.Opening.{HasContentOf, framing_of, meaning_of, opened, record_bytes, surface_for}
 use Rattle.meta_headers.specs.OpeningLaws.{OpeningLaws}
+use Rattle.meta_headers.specs.OpeningRules.{opened_by}
 use Rattle.meta_headers.specs.PlaceableHeader.{box_dimensions, is_placeable, opened_placeable, placeable_file}
 use Rattle.meta_headers.specs.PlainHeader.{is_plain, opened_plain, plain_file, plain_with}
 use Rattle.meta_headers.specs.declared.opened.FileFormat.TheVariants.{Emf, Placeable, Plain}
@@ -32,7 +35,7 @@ use Rattle.preflight_cert.specs.Answer.{AnswersOpened, AnswersRead, answer_from,
 use Rattle.preflight_cert.specs.CertificateReading.{CertificateValue, read_certificate}
 use Rattle.preflight_cert.specs.Checked.{check_of, checked, left_over}
 use Rattle.preflight_cert.specs.Entries.{covers, covers_nib, drawing_fault, entries_after, entry_fault}
-use Rattle.preflight_cert.specs.Stop.{Stop, broken_after, stop_at, stop_of, stopped, stopped_or}
+use Rattle.preflight_cert.specs.Stop.{Stop, broken_after, end_of, step_stop, stop_at, stop_of, stopped, stopped_or}
 use Rattle.preflight_cert.specs.TextLaws.{TextLaws}
 use Rattle.preflight_cert.specs.declared.certificate_entry.Entry.{Entry}
 use Rattle.meta_headers.specs.Formats.{format_of}
@@ -196,20 +199,36 @@ module _ {number : ℕ} {fault : RecordFault} where
 
 -- where the content of a file's records stops, on a surface of allowed sides
 module _ (laws : FaultLaws) (nibs : NibLaws) (one : FramedInOneWay) (by_function : FramedByFunction) (opening : OpeningLaws) (file : List ℕ) where
-  reports_stop : (o : OpenedValue) (content : Content) (width height number : ℕ) (fault : RecordFault) → opened file ≡ Ok o → HasContentOf o.format (record_bytes o.format file) content → IsSurfaceSide width → IsSurfaceSide height → stop_of content (start_of o) (surface_for o width height) ≡ Some (stop_at number fault) → ReportsStop file number fault
+  -- under the core rules a file opens as it is listed, and only a step or the end of the records stops a run
+  opened_under_core : (o : OpenedValue) → opened_by core_rules file ≡ Ok o → opened file ≡ Ok o
+  opened_under_core o opens = sym (opening.core core_rules file refl) ∙ opens
+
+  core_end : (o : OpenedValue) (content : Content) → opened_by core_rules file ≡ Ok o
+      → end_of content (start_of o) ≡ broken_after (length content.steps) content.fault
+  core_end o content opens =
+      let core : o.rules ≡ core_rules = opening.in_force core_rules file o opens in
+      rw core (or_none (broken_after (length content.steps) content.fault))
+    where
+      or_none : (stop : Option Stop) → option_or stop None ≡ stop
+      or_none None = refl
+      or_none (Some stop) = refl
+
+  reports_stop : (o : OpenedValue) (content : Content) (width height number : ℕ) (fault : RecordFault) → opened_by core_rules file ≡ Ok o → HasContentOf o.format (record_bytes o.format file) content → IsSurfaceSide width → IsSurfaceSide height → stop_of content (start_of o) (surface_for o width height) ≡ Some (stop_at number fault) → ReportsStop file number fault
   reports_stop o content width height number fault opens it wide high stops =
       let f = framing_of o.format in
       let framed = framed_records o.format file in
       let s = surface_for o width height in
-      let largest = opening.frame file o surface_side_limit surface_side_limit opens in
+      let largest = opening.frame core_rules file o surface_side_limit surface_side_limit opens in
       let decoded : content ≡ content_of f (meaning_of o.format) 0 framed =
       it.decoded ∙ ap (content_of f (meaning_of o.format) 0) (only_framed one by_function f (record_bytes o.format file) it.framed it.is_framed) in
       let all = content_of f (meaning_of o.format) 0 framed in
-      let all_stop : stop_of all (start_of o) s ≡ Some (stop_at number fault) = ap (λ (c : Content). stop_of c (start_of o) s) (sym decoded) ∙ stops in
+      let all_stop : step_stop all (start_of o) s ≡ Some (stop_at number fault) =
+      ap (λ (after : Option Stop). stopped all.steps after (start_of o) s) (sym (core_end o all opens))
+      ∙ ap (λ (c : Content). stop_of c (start_of o) s) (sym decoded) ∙ stops in
       let counted : 0 + length all.steps ≡ length all.steps = omega arith in
       reported laws nibs by_function file o.format (surface_for o 1 1) s (surface_for o surface_side_limit surface_side_limit) (record { wide = largest.wide; high = largest.high }) largest
       (up_from_smallest o width height wide high) (up_to_largest o width height wide high) (length all.steps) number fault
-      framed.records 0 (first_place o.format) framed.after framed.fault (start_of o) refl counted all_stop (reached_first file o opens)
+      framed.records 0 (first_place o.format) framed.after framed.fault (start_of o) refl counted all_stop (reached_first file o (opened_under_core o opens))
 
   reports_each_stop : ReportsEachStop file
   reports_each_stop width height image number fault wide high run =
@@ -219,16 +238,18 @@ module _ (laws : FaultLaws) (nibs : NibLaws) (one : FramedInOneWay) (by_function
       reports_stop run.headers run.content width height number fault run.of_file.opens run.of_file.records wide high stops
 
   reports_each_refusal : TextLaws → ReportsEachRefusal file
-  reports_each_refusal text certificate number fault bytes not_entry not_box not_nib answers = by_opening (opened file) refl answers
+  reports_each_refusal text certificate number fault bytes core not_entry not_box not_nib answers =
+      by_opening (opened_by core_rules file) refl
+      (subst (λ (r : Rules). AnswersOpened (opened_by r file) file certificate (rejects (Some number) (InRecord fault))) core answers)
     where
-      by_reading : (o : OpenedValue) → opened file ≡ Ok o → (read : Result CertificateValue Fault) → read_certificate certificate ≡ read → AnswersRead read o (record_bytes o.format file) (rejects (Some number) (InRecord fault)) → ReportsStop file number fault
+      by_reading : (o : OpenedValue) → opened_by core_rules file ≡ Ok o → (read : Result CertificateValue Fault) → read_certificate certificate ≡ read → AnswersRead read o (record_bytes o.format file) (rejects (Some number) (InRecord fault)) → ReportsStop file number fault
       by_reading o opens (Err e) reads h = absurd (in_a_record h)
       by_reading o opens (Ok c) reads h =
           let is = text.is_certificate certificate c bytes reads in
-          let stops = stops_in_run h.content.steps (broken_after (length h.content.steps) h.content.fault) (length h.content.steps) (start_of o) (bound_of o c) c.entries not_entry not_box not_nib (rejected_at number fault (check_of h.content (start_of o) (bound_of o c) c.entries) _ (sym h.answers)) in
+          let stops = stops_in_run h.content.steps (end_of h.content (start_of o)) (length h.content.steps) (start_of o) (bound_of o c) c.entries not_entry not_box not_nib (rejected_at number fault (check_of h.content (start_of o) (bound_of o c) c.entries) _ (sym h.answers)) in
           reports_stop o h.content c.max_width c.max_height number fault opens h.of_records is.wide is.high stops
 
-      by_opening : (open_or : Result OpenedValue Fault) → opened file ≡ open_or → AnswersOpened open_or file certificate (rejects (Some number) (InRecord fault)) → ReportsStop file number fault
+      by_opening : (open_or : Result OpenedValue Fault) → opened_by core_rules file ≡ open_or → AnswersOpened open_or file certificate (rejects (Some number) (InRecord fault)) → ReportsStop file number fault
       by_opening (Err e) opens h = absurd (in_a_record h)
       by_opening (Ok o) opens h = by_reading o opens (read_certificate certificate) refl h
 

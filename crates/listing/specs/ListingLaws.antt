@@ -7,6 +7,7 @@ use Rattle.mapping.specs.Surface.{Surface}
 use Rattle.draw_ops.specs.Content.{StepValue}
 use Rattle.draw_ops.specs.Operation.{Operation}
 use Rattle.draw_ops.specs.Records.{Record}
+use Rattle.draw_ops.specs.RuleSets.{core_rules}
 use Rattle.draw_ops.specs.declared.fault.Fault.TheVariants.{Record as InRecord}
 use Rattle.draw_ops.specs.declared.record_fault.RecordFault.{RecordFault}
 use Rattle.draw_ops.specs.declared.record_fault.RecordFault.TheVariants.{BoxTooSmall, NibTooSmall, NibTooWide, OffPlane, WrongEntry}
@@ -16,6 +17,7 @@ use Rattle.dc_stack.specs.Next.{next}
 use Rattle.dc_stack.specs.OperationFault.{fault_of}
 use Rattle.dc_stack.specs.State.{State, start_of}
 use Rattle.preflight_cert.specs.Answer.{IsAnswer, rejects}
+use Rattle.preflight_cert.specs.CertificateReading.{rules_in}
 use Rattle.preflight_cert.specs.Run.{Run, rejected}
 use Rattle.preflight_cert.specs.TextLaws.{AreBytes}
 use Rattle.listing.specs.FileRecords.{BreaksAt, HasRecord}
@@ -73,18 +75,19 @@ pub record ReportsOffPlane (file : List ℕ) (number : ℕ) (fault : RecordFault
 abbrev pub ReportsStop : List ℕ → ℕ → RecordFault → Type 0
 ReportsStop file number fault = ReportsFault file number fault ⊎ ReportsOffPlane file number fault
 
--- Wherever a run of the file stops in a record, on a surface of a valid size, the record's line has the same fault; or
--- the fault is a nib that is too wide, and the line says that the record is off the plane.
+-- Wherever a run of the file under the core rules stops in a record, on a surface of a valid size, the record's line has
+-- the same fault; or the fault is a nib that is too wide, and the line says that the record is off the plane.
 abbrev pub ReportsEachStop : List ℕ → Type 0
 ReportsEachStop file =
     (width height : ℕ) (image : Image) (number : ℕ) (fault : RecordFault) → IsSurfaceSide width → IsSurfaceSide height
-    → Run file width height image (rejected (Some number) (InRecord fault)) → ReportsStop file number fault
+    → Run core_rules file width height image (rejected (Some number) (InRecord fault)) → ReportsStop file number fault
 
--- Wherever a certificate is rejected in a record of the file, the record's line has the same fault, unless it is that
--- of the certificate's own entry.
+-- Wherever a certificate of the core rules is rejected in a record of the file, the record's line has the same fault,
+-- unless it is that of the certificate's own entry.
 abbrev pub ReportsEachRefusal : List ℕ → Type 0
 ReportsEachRefusal file =
-    (certificate : List ℕ) (number : ℕ) (fault : RecordFault) → AreBytes certificate → fault ≢ WrongEntry → fault ≢ BoxTooSmall → fault ≢ NibTooSmall
+    (certificate : List ℕ) (number : ℕ) (fault : RecordFault) → AreBytes certificate → rules_in certificate ≡ core_rules
+    → fault ≢ WrongEntry → fault ≢ BoxTooSmall → fault ≢ NibTooSmall
     → IsAnswer file certificate (rejects (Some number) (InRecord fault)) → ReportsStop file number fault
 
 -- on a surface, the fault in runs is the operation's: the path's points land there at the start, and after each

@@ -241,8 +241,8 @@ same_core : (rules : Rules) → has_fine_plane rules ≡ false → (o : OpenedVa
 same_core rules plain o is =
     let wide : o.frame_width * 1 ≡ o.fine_width = let e = is.fine_width in omega (arith, e) in
     let high : o.frame_height * 1 ≡ o.fine_height = let e = is.fine_height in omega (arith, e) in
-    let parts : parts_of_unit rules o.frame_width o.frame_height ≡ 1 = rw plain at refl in
-    let force : in_force rules ≡ core_rules = rw plain at refl in
+    let parts : parts_of_unit rules o.frame_width o.frame_height ≡ 1 = rw plain refl in
+    let force : in_force rules ≡ core_rules = rw plain refl in
     ap (λ (n : ℕ). divided (in_force rules) n o) parts
     ∙ ap (λ (r : Rules). divided r 1 o) force
     ∙ ap (λ (w : ℕ). sides_of o w (o.frame_height * 1) (map_in_parts 1 o.map) core_rules) wide
@@ -256,10 +256,10 @@ core_result rules plain (Err fault) is = refl
 
 -- the rules in force are in force, and a unit has as many parts under them
 reopened_again : (rules : Rules) (fine : Bool) → has_fine_plane rules ≡ fine → (o : OpenedValue) → reopened (in_force rules) o ≡ reopened rules o
-reopened_again rules true e o = ap (λ (r : Rules). reopened r o) (rw e at refl)
+reopened_again rules true e o = let force : in_force rules ≡ rules = rw e refl in ap (λ (r : Rules). reopened r o) force
 reopened_again rules false e o =
-    let parts : parts_of_unit rules o.frame_width o.frame_height ≡ 1 = rw e at refl in
-    let force : in_force rules ≡ core_rules = rw e at refl in
+    let parts : parts_of_unit rules o.frame_width o.frame_height ≡ 1 = rw e refl in
+    let force : in_force rules ≡ core_rules = rw e refl in
     ap (λ (r : Rules). reopened r o) force ∙ sym (ap (λ (n : ℕ). divided (in_force rules) n o) parts ∙ ap (λ (r : Rules). divided r 1 o) force)
 
 again_result : (rules : Rules) (result : Result OpenedValue Fault) → result_map (reopened (in_force rules)) result ≡ result_map (reopened rules) result
@@ -270,16 +270,15 @@ rules_result : (rules : Rules) (result : Result OpenedValue Fault) → HoldsIfOk
 rules_result rules (Ok it) = is_it (λ o. o.rules ≡ in_force rules) (reopened rules it) refl
 rules_result rules (Err fault) = no_fault (λ o. o.rules ≡ in_force rules) fault
 
+-- a file has as many handles under any rules
+handles_by : (rules : Rules) (result : Result OpenedValue Fault) → HoldsIfOk HasShortHandles result → HoldsIfOk HasShortHandles (result_map (reopened rules) result)
+handles_by rules (Ok it) is = is_it HasShortHandles (reopened rules it) (is it refl)
+handles_by rules (Err fault) is = no_fault HasShortHandles fault
+
 pub opening_laws : PartLaws → OpeningLaws
 opening_laws laws = record {
-  frame = λ file o width height opens.
-      let dimensions = frame file o opens in
-      record {
-        wide = subst IsFrameSide (sym dimensions.fine_width) dimensions.wide;
-        high = subst IsFrameSide (sym dimensions.fine_height) dimensions.high;
-      };
-  handles = λ file o all opens. handles file all o opens;
-  frame_by = λ rules file o width height opens.
+  handles = λ rules file o all opens. handles_by rules (opened file) (handles file all) o opens;
+  frame = λ rules file o width height opens.
       by_them rules (opened file) (λ it. ShowsFrame (surface_for it width height)) (frame file) (shows laws rules width height) o opens;
   core = λ rules file plain. core_result rules plain (opened file) (frame file);
   again = λ rules file. again_result rules (opened file);

@@ -12,11 +12,12 @@ use Rattle.meta_headers.specs.Opening.{opened, surface_for}
 -- handle count, if any, has 16 bits. Under the core profile a file opens as without rules. Under the rules in force a
 -- file opens in the same way again.
 pub record OpeningLaws : Type 0 where
-  pub frame : (file : List ℕ) (o : OpenedValue) (width height : ℕ) → opened file ≡ Ok o → ShowsFrame (surface_for o width height)
+  pub frame :
+      (rules : Rules) (file : List ℕ) (o : OpenedValue) (width height : ℕ) → opened_by rules file ≡ Ok o
+      → ShowsFrame (surface_for o width height)
   pub handles :
-      (file : List ℕ) (o : OpenedValue) → All (λ byte. byte < 2 ^ 8) file → opened file ≡ Ok o
+      (rules : Rules) (file : List ℕ) (o : OpenedValue) → All (λ byte. byte < 2 ^ 8) file → opened_by rules file ≡ Ok o
       → IfSome o.handles (λ n. n < 2 ^ 16)
-  pub frame_by : (rules : Rules) (file : List ℕ) (o : OpenedValue) (width height : ℕ) → opened_by rules file ≡ Ok o → ShowsFrame (surface_for o width height)
   pub core : (rules : Rules) (file : List ℕ) → has_fine_plane rules ≡ false → opened_by rules file ≡ opened file
   pub again : (rules : Rules) (file : List ℕ) → opened_by (in_force rules) file ≡ opened_by rules file
   pub in_force : (rules : Rules) (file : List ℕ) (o : OpenedValue) → opened_by rules file ≡ Ok o → o.rules ≡ in_force rules

@@ -52,7 +52,7 @@ module _ (answers : AnswerLaws) (sizes : SizeLaws) (contents : ContentIsOne) (cl
   abbrev content : Content
   content = one.value
 
-  of_file : (file : List ℕ) → IsOpenedFrom file cleared.opened → IsFile file o content
+  of_file : (file : List ℕ) → IsOpenedFrom file cleared.opened → IsFile cleared.opened.rules file o content
   of_file file from = record { opens = from.opens; records = subst (λ (bytes : List ℕ). HasContentOf o.format bytes content) from.records one.holds }
 
   of_run : IsClearedText cleared plan.width plan.height plan.start (ppm_text (rows_played o content s plan.start 0 plan.height))

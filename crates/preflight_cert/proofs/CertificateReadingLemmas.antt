@@ -16,10 +16,11 @@ use Rattle.point_views.specs.Numbers.{number_at}
 use Rattle.dc_stack.specs.Drawing.{edge_limit}
 use Rattle.dc_stack.specs.Path.{piece_limit}
 use Rattle.preflight_cert.specs.CertificateReading.{CertificateValue, allowed_by, are_bounded_needs, count_in, entries_in, entry_limit, entry_size, first_entry, have_nibs, is_bounded, is_by_print, mark_of, needs_in, nib_in, print_mark, read_certificate, read_print, read_version, read_whole, rules_in, value_in, version_of, whole_size}
-use Rattle.preflight_cert.specs.CertificateText.{allowed_number, certificate_text, entry_text, head_of, mark_text, nib_text, number_text, numbers_with, text_by}
+use Rattle.preflight_cert.specs.CertificateText.{allowed_number, certificate_text, entry_text, head_of, mark_text, nib_text, number_text, numbers_with}
 use Rattle.preflight_cert.specs.TextLaws.{AreBytes, HasNibOf, IsCertificate, IsEntry}
 use Rattle.preflight_cert.specs.declared.version.Version.{Version}
 use Rattle.preflight_cert.specs.declared.version.Version.TheVariants.{Mpc1, Mpc2}
+use Rattle.preflight_cert.proofs.CertificateTextLemmas.{core_text, numbers_of}
 use Rattle.preflight_cert.proofs.EntryLemmas.{entry_least, length-entries_in}
 use Rattle.preflight_cert.proofs.NumberTextLemmas.{long_again, long_small, number_again, number_small, short_again, signed_fits, signed_number_again}
 use Rattle.preflight_cert.proofs.TextPartLemmas.{number_is_mark}
@@ -248,12 +249,12 @@ module _ (bytes : List ℕ) (found : Option Version) (c : CertificateValue) (all
       }
 
 -- the bytes of the core profile
-core_text : (bytes : List ℕ) (c : CertificateValue) → AreBytes bytes → IsRead bytes (version_of (number_at bytes 0 4)) c → bytes ≡ certificate_text c
-core_text bytes c all h =
+core_bytes : (bytes : List ℕ) (c : CertificateValue) → AreBytes bytes → IsRead bytes (version_of (number_at bytes 0 4)) c → bytes ≡ core_text c
+core_bytes bytes c all h =
     let head = h.head in
     let found = version_of (number_at bytes 0 4) in
     let whole = marked_prefix h.version bytes _ (is_marked (number_at bytes 0 4) h.version h.marked) (number_again 0 bytes all _ (omega (arith, head)) (value_numbers bytes found c all h)) in
-    sym whole ∙ ap certificate_text h.value
+    sym whole ∙ ap core_text h.value
 
 -- what is allowed, as its number
 number_allowed : (n : ℕ) → n ≤ 3 → allowed_number (allowed_by n) ≡ n
@@ -268,31 +269,24 @@ unfolding print_mark
 print_prefix bytes marked e = ap (λ (n : ℕ). number_text n ++ drop 4 bytes) (sym marked) ∙ e
 
 -- the bytes of the print profile
-print_text : (bytes : List ℕ) (c : CertificateValue) → AreBytes bytes → is_by_print bytes ≡ true → IsReadUnderPrint bytes c → bytes ≡ codes "MPC3" ++ (number_text (number_at bytes 4 4) ++ drop 4 (certificate_text c))
-print_text bytes c all print h =
+print_bytes : (bytes : List ℕ) (c : CertificateValue) → AreBytes bytes → is_by_print bytes ≡ true → IsReadUnderPrint bytes c → bytes ≡ codes "MPC3" ++ (number_text (number_at bytes 4 4) ++ numbers_of c)
+print_bytes bytes c all print h =
     let head = h.head in
     let plain = All-drop (λ byte. byte < 2 ^ 8) 4 bytes all in
     let numbers = value_numbers (drop 4 bytes) (Some Mpc2) c plain h.read in
-    let behind : drop 4 (certificate_text c) ≡ drop 8 bytes =
-    ap (λ (v : CertificateValue). drop 4 (certificate_text v)) (sym h.read.value)
-    ∙ behind_marks h.read.version _ ∙ numbers ∙ drop-drop 4 4 bytes
-    in
+    let behind : numbers_of c ≡ drop 8 bytes = ap numbers_of (sym h.read.value) ∙ numbers ∙ drop-drop 4 4 bytes in
     let again = number_again 4 bytes all _ (omega (arith, head)) behind in
     sym (ap (λ (rest : List ℕ). codes "MPC3" ++ rest) again
     ∙ print_prefix bytes (eqb-true (number_at bytes 0 4) print_mark print) (number_again 0 bytes all (drop 4 bytes) (omega (arith, head)) refl))
-  where
-    behind_marks : (version : Version) (rest : List ℕ) → drop 4 (mark_text version ++ rest) ≡ rest
-    behind_marks Mpc1 rest = refl
-    behind_marks Mpc2 rest = refl
 
-pub is_text : (bytes : List ℕ) (c : CertificateValue) → AreBytes bytes → read_certificate bytes ≡ Ok c → bytes ≡ text_by (rules_in bytes) c
+pub is_text : (bytes : List ℕ) (c : CertificateValue) → AreBytes bytes → read_certificate bytes ≡ Ok c → bytes ≡ certificate_text (rules_in bytes) c
 is_text bytes c all e = by_profile (is_by_print bytes) refl
   where
-    by_profile : (print : Bool) → is_by_print bytes ≡ print → bytes ≡ text_by (rules_in bytes) c
-    by_profile false core = rw core (core_text bytes c all (read_under_core bytes c core e))
+    by_profile : (print : Bool) → is_by_print bytes ≡ print → bytes ≡ certificate_text (rules_in bytes) c
+    by_profile false core = rw core (core_bytes bytes c all (read_under_core bytes c core e))
     by_profile true print =
         let h = read_under_print bytes c print e in
-        rw (print, number_allowed (number_at bytes 4 4) h.allowed) (print_text bytes c all print h)
+        rw (print, number_allowed (number_at bytes 4 4) h.allowed) (print_bytes bytes c all print h)
 
 pub is_certificate : (bytes : List ℕ) (c : CertificateValue) → AreBytes bytes → read_certificate bytes ≡ Ok c → IsCertificate c
 is_certificate bytes c all e = by_profile (is_by_print bytes) refl

@@ -21,7 +21,7 @@ use Rattle.point_views.specs.Numbers.{number_at}
 use Rattle.dc_stack.specs.Drawing.{edge_limit}
 use Rattle.dc_stack.specs.Path.{piece_limit}
 use Rattle.preflight_cert.specs.CertificateReading.{CertificateValue, allowed_by, are_bounded_needs, count_in, entries_in, entry_limit, entry_size, first_entry, have_nibs, is_bounded, is_by_print, mark_of, needs_in, nib_in, print_mark, read_certificate, read_print, read_version, read_whole, rules_in, value_in, version_of, whole_size, with_nibs}
-use Rattle.preflight_cert.specs.CertificateText.{allowed_number, certificate_text, entry_text, mark_text, needs_text, nib_text, number_text, text_by}
+use Rattle.preflight_cert.specs.CertificateText.{allowed_number, certificate_text, entry_text, mark_text, needs_text, nib_text, number_text}
 use Rattle.preflight_cert.specs.TextLaws.{HasNibOf, IsCertificate, IsEntry}
 use Rattle.preflight_cert.specs.declared.certificate_entry.Entry.{Entry}
 use Rattle.preflight_cert.specs.declared.version.Version.{Version}
@@ -108,7 +108,7 @@ module _ (version : Version) where
       let e = mul-suc (entry_size version) (length entries) in omega (arith, one, others, e)
 
 -- the bytes of a certificate behind the first four, and all of them with a number in place of those
-abbrev numbers_of : CertificateValue → List ℕ
+abbrev pub numbers_of : CertificateValue → List ℕ
 numbers_of c =
     number_text c.max_width ++ (number_text c.max_height
     ++ (to_le_bytes w64 c.writes ++ needs_text c.needs (number_text (length c.entries) ++ flat_map (entry_text c.version) c.entries)))
@@ -119,13 +119,17 @@ numbered_text n c = number_text n ++ numbers_of c
 abbrev marked_text : CertificateValue → List ℕ
 marked_text c = numbered_text (mark_of c.version) c
 
-marked_is_text : (c : CertificateValue) → marked_text c ≡ certificate_text c
+-- the bytes of a certificate of the core profile
+abbrev pub core_text : CertificateValue → List ℕ
+core_text c = mark_text c.version ++ numbers_of c
+
+marked_is_text : (c : CertificateValue) → marked_text c ≡ core_text c
 marked_is_text c = ap (λ (mark : List ℕ). mark ++ numbers_of c) (number_is_mark c.version)
 
 length-numbered : (n : ℕ) (c : CertificateValue) → length (numbered_text n c) ≡ 40 + entry_size c.version * length c.entries
 length-numbered n c = let e = length-entries c.version c.entries in omega (arith, e)
 
-pub length-text : (c : CertificateValue) → length (certificate_text c) ≡ 40 + entry_size c.version * length c.entries
+pub length-text : (c : CertificateValue) → length (core_text c) ≡ 40 + entry_size c.version * length c.entries
 length-text c = ap length (sym (marked_is_text c)) ∙ length-numbered (mark_of c.version) c
 
 -- a version is found by its mark
@@ -230,16 +234,8 @@ module _ (c : CertificateValue) (h : IsCertificate c) where
       ∙ ap (λ (found : Option Version). read_version found (marked_text c)) (ap version_of mark_back ∙ found_by_mark c.version)
       ∙ version_back (mark_of c.version) c h
 
-  core_back : read_certificate (certificate_text c) ≡ Ok c
+  core_back : read_certificate (core_text c) ≡ Ok c
   core_back = subst (λ (bytes : List ℕ). read_certificate bytes ≡ Ok c) (marked_is_text c) marked_back
-
--- what is behind the first four bytes
-behind_mark : (c : CertificateValue) → drop 4 (certificate_text c) ≡ numbers_of c
-behind_mark c = behind c.version (numbers_of c)
-  where
-    behind : (version : Version) (rest : List ℕ) → drop 4 (mark_text version ++ rest) ≡ rest
-    behind Mpc1 rest = refl
-    behind Mpc2 rest = refl
 
 -- what is allowed, as a number and back
 few_allowed : (allowed : Allowances) → allowed_number allowed ≤ 3
@@ -286,13 +282,13 @@ module _ (c : CertificateValue) (h : IsCertificate c) (wide : c.version ≡ Mpc2
 
 -- the bytes under rules are read back
 abbrev text_where : Bool → Allowances → CertificateValue → List ℕ
-text_where fine allowed c = if fine then codes "MPC3" ++ (number_text (allowed_number allowed) ++ drop 4 (certificate_text c)) else certificate_text c
+text_where fine allowed c = (if fine then codes "MPC3" ++ number_text (allowed_number allowed) else mark_text c.version) ++ numbers_of c
 
-pub reads_back : (rules : Rules) (c : CertificateValue) → IsCertificate c → (has_fine_plane rules ≡ true → c.version ≡ Mpc2) → read_certificate (text_by rules c) ≡ Ok c
+pub reads_back : (rules : Rules) (c : CertificateValue) → IsCertificate c → (has_fine_plane rules ≡ true → c.version ≡ Mpc2) → read_certificate (certificate_text rules c) ≡ Ok c
 reads_back rules c h wide = by_profile (has_fine_plane rules) refl
   where
     by_profile : (fine : Bool) → has_fine_plane rules ≡ fine → read_certificate (text_where fine rules.allowed c) ≡ Ok c
-    by_profile true e = rw (behind_mark c) (fine_back c h (wide e) rules.allowed)
+    by_profile true e = fine_back c h (wide e) rules.allowed
     by_profile false e = core_back c h
 
 -- the rules under which it was made
@@ -319,9 +315,9 @@ allowed_in allowed rest =
     let print : is_by_print (codes "MPC3" ++ (number_text (allowed_number allowed) ++ rest)) ≡ true = marked_print (number_text (allowed_number allowed) ++ rest) in
     rw (print, here) (ap (ruled Print) (allowed_back allowed))
 
-pub rules_back : (rules : Rules) (c : CertificateValue) → has_fine_plane rules ≡ true → rules_in (text_by rules c) ≡ rules
+pub rules_back : (rules : Rules) (c : CertificateValue) → has_fine_plane rules ≡ true → rules_in (certificate_text rules c) ≡ rules
 rules_back rules c fine =
-    rw fine (allowed_in rules.allowed (drop 4 (certificate_text c)) ∙ ap (λ (profile : Profile). ruled profile rules.allowed) (sym (print_profile rules.profile fine)))
+    rw fine (allowed_in rules.allowed (numbers_of c) ∙ ap (λ (profile : Profile). ruled profile rules.allowed) (sym (print_profile rules.profile fine)))
 
-pub core_rules_back : (rules : Rules) (c : CertificateValue) → has_fine_plane rules ≡ false → rules_in (text_by rules c) ≡ core_rules
+pub core_rules_back : (rules : Rules) (c : CertificateValue) → has_fine_plane rules ≡ false → rules_in (certificate_text rules c) ≡ core_rules
 core_rules_back rules c core = rw (core, marked_core c.version (numbers_of c)) refl

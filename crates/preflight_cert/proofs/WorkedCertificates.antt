@@ -10,7 +10,7 @@ use Rattle.dc_stack.specs.Drawing.{edge_limit}
 use Rattle.dc_stack.specs.Path.{piece_limit}
 use Rattle.span_fill.specs.WideStrokes.{one_pixel}
 use Rattle.preflight_cert.specs.CertificateReading.{CertificateValue, entry_limit, mark_of, print_mark, read_certificate, rules_in}
-use Rattle.preflight_cert.specs.CertificateText.{certificate_text, text_by}
+use Rattle.preflight_cert.specs.CertificateText.{certificate_text}
 use Rattle.preflight_cert.specs.declared.version.Version.{Version}
 use Rattle.preflight_cert.specs.declared.version.Version.TheVariants.{Mpc1, Mpc2}
 
@@ -43,7 +43,7 @@ abbrev bytes : List ℕ
 bytes = bytes_with (0x4d ∷ 0x50 ∷ 0x43 ∷ 0x31 ∷ []) 4
 
 -- it is written so, and read back
-triangle_text : certificate_text triangle ≡ bytes
+triangle_text : certificate_text core_rules triangle ≡ bytes
 triangle_text = refl
 
 triangle_read : read_certificate bytes ≡ Ok triangle
@@ -100,7 +100,7 @@ abbrev wide_bytes : List ℕ
 wide_bytes = line_bytes (0x4d ∷ 0x50 ∷ 0x43 ∷ 0x32 ∷ []) (3 ∷ 0 ∷ 3 ∷ 0 ∷ [])
 
 -- a nib of three columns and three rows is written so, and read back
-wide_text : certificate_text wide_line ≡ wide_bytes
+wide_text : certificate_text core_rules wide_line ≡ wide_bytes
 wide_text = refl
 
 wide_read : read_certificate wide_bytes ≡ Ok wide_line
@@ -117,7 +117,7 @@ thin_read : read_certificate (line_bytes (codes "MPC1") []) ≡ Ok (line_with Mp
 unfolding mark_of print_mark edge_limit piece_limit entry_limit
 thin_read = refl
 
-thin_text : certificate_text (line_with Mpc1 one_pixel) ≡ line_bytes (codes "MPC1") []
+thin_text : certificate_text core_rules (line_with Mpc1 one_pixel) ≡ line_bytes (codes "MPC1") []
 thin_text = refl
 
 -- the same under the print profile, with what is allowed, and the rules that are read
@@ -143,7 +143,7 @@ fine_read : read_certificate (fine_bytes 0) ≡ Ok fine_triangle
 unfolding mark_of print_mark edge_limit piece_limit entry_limit
 fine_read = refl
 
-fine_text : text_by (print_rules true true) fine_triangle ≡ fine_bytes 3
+fine_text : certificate_text (print_rules true true) fine_triangle ≡ fine_bytes 3
 fine_text = refl
 
 all_allowed : rules_in (fine_bytes 3) ≡ print_rules true true

@@ -66,6 +66,10 @@ entry_limit = 1048576
 abbrev pub head_size : ℕ
 head_size = 40
 
+-- the same under the print profile
+abbrev pub print_head_size : ℕ
+print_head_size = 44
+
 -- the number of bytes in an entry: a number and a box, and in the later version a nib
 abbrev pub entry_size : Version → ℕ
 entry_size Mpc1 = 20
@@ -153,7 +157,7 @@ read_version (Some version) bytes =
 -- the same for a certificate of the print profile: behind what it allows it is one of the later version behind its mark
 abbrev pub read_print : List ℕ → Result CertificateValue Fault
 read_print bytes =
-    if nat_lt (length bytes) 44 then Err ShortCertificate
+    if nat_lt (length bytes) print_head_size then Err ShortCertificate
     else (if nat_lt 3 (number_at bytes 4 4) then Err BadBound else read_version (Some Mpc2) (drop 4 bytes))
 
 -- the first fault of a certificate's bytes, or their contents

@@ -11,7 +11,7 @@ use Rattle.dc_stack.specs.Drawing.{edge_limit}
 use Rattle.dc_stack.specs.Path.{piece_limit}
 use Rattle.dc_stack.specs.SavedStates.{depth_limit}
 use Rattle.preflight_cert.specs.CertificateReading.{CertificateValue, entry_limit, read_certificate, rules_in, slot_limit}
-use Rattle.preflight_cert.specs.CertificateText.{text_by}
+use Rattle.preflight_cert.specs.CertificateText.{certificate_text}
 use Rattle.span_fill.specs.WideStrokes.{one_pixel}
 use Rattle.preflight_cert.specs.declared.certificate_entry.Entry.{Entry}
 use Rattle.preflight_cert.specs.declared.version.Version.{Version}
@@ -55,11 +55,11 @@ HasVersionUnder rules c = has_fine_plane rules ≡ true → c.version ≡ Mpc2
 -- are read are the text of what they describe, and that is a certificate.
 pub record TextLaws : Type 0 where
   pub reads_back :
-      (rules : Rules) (c : CertificateValue) → IsCertificate c → HasVersionUnder rules c → read_certificate (text_by rules c) ≡ Ok c
-  pub rules_back : (rules : Rules) (c : CertificateValue) → has_fine_plane rules ≡ true → rules_in (text_by rules c) ≡ rules
-  pub core_back : (rules : Rules) (c : CertificateValue) → has_fine_plane rules ≡ false → rules_in (text_by rules c) ≡ core_rules
+      (rules : Rules) (c : CertificateValue) → IsCertificate c → HasVersionUnder rules c → read_certificate (certificate_text rules c) ≡ Ok c
+  pub rules_back : (rules : Rules) (c : CertificateValue) → has_fine_plane rules ≡ true → rules_in (certificate_text rules c) ≡ rules
+  pub core_back : (rules : Rules) (c : CertificateValue) → has_fine_plane rules ≡ false → rules_in (certificate_text rules c) ≡ core_rules
   pub is_text :
-      (bytes : List ℕ) (c : CertificateValue) → AreBytes bytes → read_certificate bytes ≡ Ok c → bytes ≡ text_by (rules_in bytes) c
+      (bytes : List ℕ) (c : CertificateValue) → AreBytes bytes → read_certificate bytes ≡ Ok c → bytes ≡ certificate_text (rules_in bytes) c
   pub is_certificate :
       (bytes : List ℕ) (c : CertificateValue) → AreBytes bytes → read_certificate bytes ≡ Ok c → IsCertificate c
   pub has_version :

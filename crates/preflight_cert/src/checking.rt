@@ -6,7 +6,7 @@ ghost use Rattle.meta_headers.specs.File.{IsOpenedFrom};
 ghost use Rattle.preflight_cert.specs.Answer.{IsAnswer, IsRejectedWith, accepted, are_within, rejects, total_fault};
 ghost use Rattle.preflight_cert.specs.CertificateOf.{certificate_of};
 ghost use Rattle.preflight_cert.specs.ClearedFacts.{CountsItsRecords, IsSoundFor};
-ghost use Rattle.preflight_cert.specs.CertificateReading.{read_certificate};
+ghost use Rattle.preflight_cert.specs.CertificateReading.{read_certificate, rules_in};
 ghost use Rattle.preflight_cert.specs.OpenedRecords.{AnswersRecordsOf, CountsRecordsOf, RejectsRecordsOf};
 ghost use Rattle.preflight_cert.specs.Reached.{OpensBoth};
 ghost use Rattle.preflight_cert.specs.Refusal.{IsWantOfMemory, ReportsNumber};
@@ -19,7 +19,7 @@ use crate::refusal::Refusal;
 use dc_stack::{Machine, Needs};
 use draw_ops::{Fault, Notes, content_law};
 use mapping::Place;
-use meta_headers::{Opened, open_file};
+use meta_headers::{Opened, open_file, opening_law};
 use object_tables::FileTable;
 use std::alloc::Global;
 
@@ -31,10 +31,11 @@ use std::alloc::Global;
 /// - the certificate can't be read;
 /// - a record has a fault at the bound, or its drawing has no entry (`WrongEntry`), or one whose box lacks a point
 ///   (`BoxTooSmall`) or whose nib is smaller (`NibTooSmall`);
+/// - an EMF file contains EMF+ and draws nothing, and the rules don't allow that (`EmfPlusAlone`);
 /// - there is a surplus entry;
 /// - a need is too small, or else the number of writes is.
 ///
-/// Memory is allocated only after both were read.
+/// The file is played under the certificate's rules. Memory is allocated only after both were read.
 pub fn check<'a>(
     alloc: Global,
     file: &'a [u8],
@@ -43,6 +44,7 @@ pub fn check<'a>(
     ensures accepted { OnOk result (IsAnswer file.now certificate.now accepted) }
     ensures opened { IfOk result (λ c. IsOpenedFrom file.now c.opened) }
     ensures read { IfOk result (λ c. read_certificate certificate.now ≡ Ok (certificate_of c.certificate)) }
+    ensures rules { IfOk result (λ c. c.opened.rules ≡ rules_in certificate.now) }
     ensures counts { IfOk result CountsItsRecords }
     ensures sound { IfOk result (IsSoundFor file.now) }
     ensures refusal { IfErr result (λ r. IsRejectedWith file.now certificate.now r ⊎ IsWantOfMemory r) }
@@ -50,6 +52,7 @@ pub fn check<'a>(
     ensures number_reported { IfErr result ReportsNumber }
 {
     answer_law();
+    opening_law();
     let opened = match open_file(file) {
         Ok(opened) => opened,
         Err(fault) => return Err(Refusal::of_file(fault)),
@@ -58,7 +61,7 @@ pub fn check<'a>(
         Ok(certificate) => certificate,
         Err(fault) => return Err(Refusal::of_file(fault)),
     };
-    match check_opened(alloc, opened, certificate) {
+    match check_opened(alloc, opened.by(certificate.rules), certificate) {
         Ok(cleared) => Ok(cleared),
         Err(refusal) => Err(refusal),
     }
@@ -72,7 +75,7 @@ fn check_opened<'a>(
 ) -> Result<Cleared<'a>, Refusal>
     ensures opened { IfOk result (λ c. c.opened ≡ opened.entry) }
     ensures certificate { IfOk result (λ c. c.certificate ≡ certificate.entry) }
-    ensures counts { IfOk result (λ c. CountsRecordsOf opened.entry c.records c.notes.counts) }
+    ensures counts { IfOk result (λ c. CountsRecordsOf opened.entry c.records c.notes.counts c.uses) }
     ensures accepted { OnOk result (AnswersRecordsOf opened.entry certificate.entry accepted) }
     ensures refusal { IfErr result (λ r. RejectsRecordsOf opened.entry certificate.entry r ⊎ IsWantOfMemory r) }
     ensures number_reported { IfErr result ReportsNumber }
@@ -90,6 +93,7 @@ fn check_opened<'a>(
         &mut machine,
         certificate.entries,
         Notes::of(opened.notes),
+        opened.rules,
     ) {
         Ok(totals) => totals,
         Err(refusal) => return Err(refusal),
@@ -100,6 +104,7 @@ fn check_opened<'a>(
             certificate,
             records: totals.records,
             notes: totals.notes,
+            uses: totals.uses,
         }),
         Some(fault) => Err(Refusal::of_file(fault)),
     }

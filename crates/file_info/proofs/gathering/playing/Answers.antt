@@ -16,11 +16,11 @@ returns-in-Ok-clause-is c = record {
 
 pub returns-in-Ok-clause-everywhere : goal.returns-in-Ok-clause-everywhere
 returns-in-Ok-clause-everywhere c =
-    (λ is. plays_everywhere c.size_law.ensures c.opening_law.ensures c.args.file.now _ c.in-Ok.ensures.text, λ plays. refl)
+    (λ is. plays_everywhere c.size_law.ensures c.opening_law.ensures c.args.rules c.args.file.now _ c.in-Ok.ensures.text, λ plays. refl)
 
 pub returns-else-eq-clause-everywhere : goal.returns-else-eq-clause-everywhere
 returns-else-eq-clause-everywhere c = (
   (λ is. let bad : false ≡ true = is in cc),
-  (λ plays. absurd (plays_not_everywhere c.run_law.ensures.end c.args.file.now c.in-Err.refusal.number c.in-Err.refusal.fault
-      (rejects c.args.file.now c.in-Err.refusal c.in-Err.ensures.refusal (search rules)) plays)),
+  (λ plays. absurd (plays_not_everywhere c.run_law.ensures.end c.args.rules c.args.file.now c.in-Err.refusal.number c.in-Err.refusal.fault
+      (rejects c.args.rules c.args.file.now c.in-Err.refusal c.in-Err.ensures.refusal (search rules)) plays)),
 )
