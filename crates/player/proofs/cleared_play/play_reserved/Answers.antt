@@ -1,5 +1,5 @@
 -- A cleared file writes at most the certified number of pixels.
-use Rattle.std.proofs.Common.{◌≡◌, ℕ, ◌+◌, ap, subst, sym, rules}
+use Rattle.std.proofs.Common.{◌≡◌, ℕ, ◌+◌, ap, subst, sym}
 use Rattle.mapping.specs.PlacingLaws.{ShowsFrame}
 use Rattle.mapping.specs.Surface.{Surface}
 use Rattle.meta_headers.specs.OpenedOf.{opened_of}
@@ -8,8 +8,8 @@ use Rattle.preflight_cert.specs.Answer.{bound_of}
 use Rattle.preflight_cert.specs.CertificateOf.{certificate_of}
 use Rattle.preflight_cert.specs.Drawings.{drawings_of}
 use Rattle.preflight_cert.specs.Writes.{writes_after, writes_of_drawings}
-use Rattle.player.specs.Plays.{PlaysContent}
 use Rattle.player.proofs.ClearedLemmas.{few_written, never_stops}
+use Rattle.player.proofs.WholeSurfaceLemmas.{whole_played}
 use Rattle.player.proofs.cleared_play.play_reserved.Goals as goal
 
 -- the file never stops, so that its run shows what was played
@@ -21,11 +21,8 @@ returns-clause-played g c =
     let s = c.args.machine.now.surface in
     let frame : ShowsFrame (bound_of o k) = record { wide = cleared.opened.fine_frame.wide; high = cleared.opened.fine_frame.high } in
     let played = c.play_rows.ensures.played in
-    let plays : PlaysContent played.content c.args.machine.now c.args.canvas.now c.play_rows.new.canvas = played.plays in
     let never = never_stops c.answer_law.ensures o cleared.opened.records.now k cleared.checked c.size_law.ensures s frame c.requires.ready.within played.content played.of_records in
-    let image = plays.image in
-    let writes = plays.writes in
-    record { content = played.content; of_records = played.of_records; unstopped = rw c.requires.surface at never; image = search (image, rules); writes = search (writes, rules) }
+    whole_played o cleared.opened.records.now c.args.machine.now c.args.canvas.now c.play_rows.new.canvas played never c.requires.whole c.requires.start.state c.requires.surface
 
 pub returns-clause-few : goal.returns-clause-few
 returns-clause-few g c =
