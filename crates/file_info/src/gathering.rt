@@ -1,7 +1,6 @@
 //! Finds out what is known of a file without a certificate.
 
 ghost use Rattle.std.specs.Prelude.{◌≡◌, ◌↔◌, IfOk, true};
-ghost use Rattle.draw_ops.specs.RuleSets.{core_rules};
 ghost use Rattle.meta_headers.specs.Opening.{opened};
 ghost use Rattle.file_info.specs.Info.{IsInfoOf, IsPlaying, PlaysEverywhere, is_playing, sizes_if};
 
@@ -11,21 +10,22 @@ use crate::paper::Sizes;
 use crate::playing::Playing;
 use crate::sizing::sizes;
 use canvas::OutOfMemory;
-use draw_ops::{Fault, Rules};
+use draw_ops::{Fault, Rules, content_law};
 use mapping::MAX_SURFACE_SIDE;
 use meta_headers::{FileFormat, open_file, opening_law};
 use preflight_cert::{Prepared, run_law, size_law};
 use std::alloc::Global;
 
-/// What is known of a file: its format, the sizes in its headers, its records, notes and faults, and how its run on the
-/// largest surface ends. A file whose run there has no fault plays on every surface.
-pub fn file_info(alloc: Global, file: &[u8]) -> Result<FileInfo, OutOfMemory>
-    ensures info { IfOk result (IsInfoOf file.now) }
-    ensures plays { IfOk result (λ info. is_playing info.playing ≡ true ↔ PlaysEverywhere core_rules file.now) }
+/// What is known of a file under these rules: its format, the sizes in its headers, its records, notes and faults, and how
+/// its run on the largest surface ends. A file whose run there has no fault plays on every surface.
+pub fn file_info(alloc: Global, rules: Rules, file: &[u8]) -> Result<FileInfo, OutOfMemory>
+    ensures info { IfOk result (IsInfoOf rules file.now) }
+    ensures plays { IfOk result (λ info. is_playing info.playing ≡ true ↔ PlaysEverywhere rules file.now) }
 {
-    let totals = count_records(alloc, file)?;
-    let playing = playing(alloc, Rules::CORE, file)?;
+    let totals = count_records(alloc, rules, file)?;
+    let playing = playing(alloc, rules, file)?;
     Ok(FileInfo {
+        rules,
         format: FileFormat::of(file),
         sizes: sizes_if_opened(file),
         totals,
@@ -48,6 +48,7 @@ fn playing(alloc: Global, rules: Rules, file: &[u8]) -> Result<Playing, OutOfMem
     ensures is { IfOk result (IsPlaying rules file.now) }
     ensures everywhere { IfOk result (λ playing. is_playing playing ≡ true ↔ PlaysEverywhere rules file.now) }
 {
+    content_law();
     opening_law();
     run_law();
     size_law();
@@ -57,6 +58,7 @@ fn playing(alloc: Global, rules: Rules, file: &[u8]) -> Result<Playing, OutOfMem
             Ok(Playing::Plays {
                 drawings: cleared.certificate.len() as u64,
                 objects: cleared.certificate.needs.slots,
+                uses: cleared.uses,
             })
         }
         Err(refusal) => {

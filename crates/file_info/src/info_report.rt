@@ -14,8 +14,13 @@ use crate::info::FileInfo;
 use crate::info_values::{
     box_value, dots_value, format_value, frame_value, paper_of, records_value, size_value,
 };
-use crate::playing_values::{drawings_value, fault_value, kind_value, objects_value, record_value};
-use report_parts::{compact_text_of, notes_value, put_text, report_text_of};
+use crate::playing_values::{
+    allowed_value, drawings_value, fault_value, kind_value, objects_value, record_value,
+};
+use draw_ops::Rules;
+use report_parts::{
+    compact_text_of, notes_value, put_allowed, put_profile, put_text, report_text_of,
+};
 use serde_json::{Map, Value, put};
 use std::alloc::{AllocError, Global};
 
@@ -40,6 +45,7 @@ fn first_value(alloc: Global, info: &FileInfo) -> Result<Value, AllocError>
     let dots = dots_value(alloc, paper_of(info.sizes))?;
     let frame = box_value(alloc, info.sizes)?;
     let fault = fault_value(alloc, info.playing)?;
+    let uses = allowed_value(alloc, info.playing)?;
     let mut members = Map::new(alloc);
     put(&mut members, alloc, "fault", fault)?;
     put(&mut members, alloc, "error", Value::Null)?;
@@ -51,6 +57,7 @@ fn first_value(alloc: Global, info: &FileInfo) -> Result<Value, AllocError>
         drawings_value(info.playing),
     )?;
     put(&mut members, alloc, "dots_per_inch", dots)?;
+    put_allowed(&mut members, alloc, info.rules, uses)?;
     Ok(Value::from(members))
 }
 
@@ -83,6 +90,7 @@ fn last_value(alloc: Global, name: &str, info: &FileInfo) -> Result<Value, Alloc
     put(&mut members, alloc, "frame", frame)?;
     put(&mut members, alloc, "format", format)?;
     put_text(&mut members, alloc, "file", name)?;
+    put_profile(&mut members, alloc, info.rules)?;
     Ok(Value::from(members))
 }
 
@@ -129,16 +137,21 @@ fn without_first(bytes: &[u8]) -> &[u8]
 }
 
 /// The line of a file that wasn't read, with the error.
-pub fn unread_text(alloc: Global, name: &str, error: &str) -> Result<Vec<u8>, AllocError>
-    ensures { IfOk result (λ text. text.items ≡ report_text (unread_data name.now error.now)) }
+pub fn unread_text(
+    alloc: Global,
+    rules: Rules,
+    name: &str,
+    error: &str,
+) -> Result<Vec<u8>, AllocError>
+    ensures { IfOk result (λ text. text.items ≡ report_text (unread_data rules name.now error.now)) }
 {
-    let report = unread_value(alloc, name, error)?;
+    let report = unread_value(alloc, rules, name, error)?;
     report_text_of(alloc, &report)
 }
 
 /// The report about a file that wasn't read.
-fn unread_value(alloc: Global, name: &str, error: &str) -> Result<Value, AllocError>
-    ensures { IfOk result (λ value. view value ≡ unread_data name.now error.now) }
+fn unread_value(alloc: Global, rules: Rules, name: &str, error: &str) -> Result<Value, AllocError>
+    ensures { IfOk result (λ value. view value ≡ unread_data rules name.now error.now) }
 {
     let mut members = Map::new(alloc);
     put_last_unknown(&mut members, alloc)?;
@@ -149,6 +162,8 @@ fn unread_value(alloc: Global, name: &str, error: &str) -> Result<Value, AllocEr
     put(&mut members, alloc, "emf_frame", Value::Null)?;
     put(&mut members, alloc, "drawings", Value::Null)?;
     put(&mut members, alloc, "dots_per_inch", Value::Null)?;
+    put_profile(&mut members, alloc, rules)?;
+    put_allowed(&mut members, alloc, rules, Value::Null)?;
     Ok(Value::from(members))
 }
 

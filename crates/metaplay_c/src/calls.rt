@@ -1,5 +1,6 @@
 //! The functions that C calls.
 
+ghost use Rattle.draw_ops.specs.RuleSets.{core_rules};
 ghost use Rattle.buffer_calls.specs.CertifiedTerms.{terms_result};
 ghost use Rattle.buffer_calls.specs.Checks.{EndsCheck};
 ghost use Rattle.buffer_calls.specs.Fitted.{fitted_result};
@@ -12,6 +13,7 @@ use crate::answers::{
     rejected_answer,
 };
 use buffer_calls::{check_bytes, copy_fault_name, fitted_for, play_into, prepare_into, terms_of};
+use draw_ops::Rules;
 use preflight_cert::Refusal;
 use proportions::Sides;
 use std::alloc::Global;
@@ -33,9 +35,10 @@ pub extern "C" fn metaplay_prepare(
     height: u32,
     out: &mut [u8],
 ) -> Answer
-    ensures { Reports (EndsPrepare file.now width height out.old out.new) result }
+    ensures { Reports (EndsPrepare core_rules file.now width height out.old out.new) result }
 {
-    answer_of(prepare_into(alloc, file, Sides { width, height }, out))
+    let bound = Sides { width, height };
+    answer_of(prepare_into(alloc, Rules::CORE, file, bound, out))
 }
 
 /// Checks a certificate against a file, and plays the file into a buffer of samples.
