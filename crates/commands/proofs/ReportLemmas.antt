@@ -1,9 +1,8 @@
 -- All numbers of a report are integers, and it has as many drawings as there are entries.
-use Rattle.std.proofs.Common.{◌≡◌, ◌∙◌, ◌⊎◌, inl, inr, ap, subst, sym, Result, Ok, Bool, true, false, ◌==◌, if◌then◌else◌, ℕ, List, [], ◌∷◌, length, Option, codes, refl}
-use Rattle.serde_json.specs.Data.{Data, Members, boolean, no_members, put, string}
+use Rattle.std.proofs.Common.{◌≡◌, ◌∙◌, ◌⊎◌, inl, inr, ap, subst, sym, Result, Ok, true, false, ℕ, List, [], ◌∷◌, length, Option, codes, refl}
+use Rattle.serde_json.specs.Data.{Data, boolean, no_members, put, string}
 use Rattle.serde_json.specs.Written.{has_float, members_have_float}
 use Rattle.mapping.specs.Surface.{Surface}
-use Rattle.draw_ops.specs.RuleSets.{has_fine_plane}
 use Rattle.draw_ops.specs.declared.rules.Rules.{Rules}
 use Rattle.draw_ops.specs.declared.fault.Fault.{Fault}
 use Rattle.draw_ops.specs.declared.fault.Fault.TheVariants.{OutOfMemory}
@@ -30,25 +29,10 @@ use Rattle.preflight_cert.specs.declared.refusal.Refusal.{Refusal}
 use Rattle.preflight_cert.specs.declared.uses.Uses.{Uses}
 use Rattle.meta_headers.specs.Formats.{format_name}
 use Rattle.report_parts.specs.Parts.{notes_data, pair, report_text, whole, whole_if}
-use Rattle.report_parts.specs.Whole.{if_whole, notes_whole, put_whole}
-use Rattle.commands.specs.CheckReport.{ReportsAccepted, ReportsRejected, accepted_report, needs_data, put_used, rejected_report, uses_data}
+use Rattle.report_parts.specs.Profile.{uses_data, with_profile}
+use Rattle.report_parts.specs.Whole.{allowed_whole, if_whole, notes_whole, profile_whole, put_whole, uses_whole}
+use Rattle.commands.specs.CheckReport.{ReportsAccepted, ReportsRejected, accepted_report, needs_data, rejected_report}
 use Rattle.commands.specs.ClearedFiles.{report_of}
-
-used_whole : (none : Bool) (name : List ℕ) (count : ℕ) (ms : Members) → members_have_float ms ≡ false → members_have_float (if none then ms else put name (whole count) ms) ≡ false
-used_whole true name count ms others = others
-used_whole false name count ms others = put_whole name (whole count) ms refl others
-
-uses_whole : (uses : Uses) → has_float (uses_data uses) ≡ false
-uses_whole uses =
-    let held = used_whole (uses.held_deletion == 0) (codes "held-deletion") uses.held_deletion no_members refl in
-    used_whole (uses.emf_plus == 0) (codes "emf-plus") uses.emf_plus (put_used (codes "held-deletion") uses.held_deletion no_members) held
-
-profile_whole : (fine : Bool) (uses : Uses) (ms : Members) → members_have_float ms ≡ false
-    → members_have_float (if fine then put (codes "allowed") (uses_data uses) (put (codes "profile") (string (codes "print")) ms) else ms) ≡ false
-profile_whole false uses ms others = others
-profile_whole true uses ms others =
-    let named = put_whole (codes "profile") (string (codes "print")) ms refl others in
-    put_whole (codes "allowed") (uses_data uses) (put (codes "profile") (string (codes "print")) ms) (uses_whole uses) named
 
 accepted_whole : (o : OpenedValue) (c : CertificateValue) (records drawings : ℕ) (notes : List ℕ) (uses : Uses) → has_float (accepted_report o c records drawings notes uses) ≡ false
 accepted_whole o c records drawings notes uses =
@@ -70,7 +54,9 @@ accepted_whole o c records drawings notes uses =
     let e7 : members_have_float m7 ≡ false = put_whole (codes "drawings") (whole drawings) m6 refl e6 in
     let m8 = put (codes "accepted") (boolean true) m7 in
     let e8 : members_have_float m8 ≡ false = put_whole (codes "accepted") (boolean true) m7 refl e7 in
-    profile_whole (has_fine_plane o.rules) uses m8 e8
+    let m9 = with_profile o.rules m8 in
+    let e9 : members_have_float m9 ≡ false = profile_whole o.rules m8 e8 in
+    allowed_whole o.rules (uses_data uses.held_deletion uses.emf_plus) m9 (uses_whole uses.held_deletion uses.emf_plus) e9
 
 pub report_whole : (cleared : Cleared) → has_float (report_of cleared) ≡ false
 report_whole cleared =

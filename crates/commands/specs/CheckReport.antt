@@ -1,12 +1,10 @@
 -- The report of a check, as JSON.
-use Rattle.std.specs.Prelude.{◌≡◌, ℕ, ◌==◌, if◌then◌else◌, List, length, Option, Ok, codes, true, false}
-use Rattle.serde_json.specs.Data.{Data, Members, boolean, member, no_members, object, put, string}
+use Rattle.std.specs.Prelude.{◌≡◌, ℕ, List, length, Option, Ok, codes, true, false}
+use Rattle.serde_json.specs.Data.{Data, boolean, member, no_members, object, put, string}
 use Rattle.draw_ops.specs.Content.{Content}
 use Rattle.draw_ops.specs.Fault.{record_kind_of}
 use Rattle.draw_ops.specs.FaultTable.{fault_row}
-use Rattle.draw_ops.specs.RuleSets.{has_fine_plane}
 use Rattle.draw_ops.specs.declared.fault.Fault.{Fault}
-use Rattle.draw_ops.specs.declared.rules.Rules.{Rules}
 use Rattle.dc_stack.specs.State.{start_of}
 use Rattle.dc_stack.specs.declared.needs.Needs.{Needs}
 use Rattle.meta_headers.specs.File.{IsFile}
@@ -18,6 +16,7 @@ use Rattle.preflight_cert.specs.CertificateReading.{CertificateValue, read_certi
 use Rattle.preflight_cert.specs.Drawings.{drawings_of}
 use Rattle.preflight_cert.specs.declared.uses.Uses.{Uses}
 use Rattle.report_parts.specs.Parts.{notes_data, pair, report_text, whole, whole_if}
+use Rattle.report_parts.specs.Profile.{uses_data, with_allowed, with_profile}
 
 -- the needs, by name
 abbrev pub needs_data : Needs → Data
@@ -25,25 +24,12 @@ needs_data needs =
     object (member (codes "depth") (whole needs.depth) (member (codes "edges") (whole needs.edges)
     (member (codes "pieces") (whole needs.pieces) (member (codes "slots") (whole needs.slots) no_members))))
 
--- one member more for what is used at least once, with how often
-abbrev pub put_used : List ℕ → ℕ → Members → Members
-put_used name count members = if count == 0 then members else put name (whole count) members
-
--- what a file uses of what its rules allow, by name
-abbrev pub uses_data : Uses → Data
-uses_data uses = object (put_used (codes "emf-plus") uses.emf_plus (put_used (codes "held-deletion") uses.held_deletion no_members))
-
--- under the print profile two members more: the profile, and what the file uses of what the rules allow
-abbrev pub with_profile : Rules → Uses → Members → Members
-with_profile rules uses members =
-    if has_fine_plane rules then put (codes "allowed") (uses_data uses) (put (codes "profile") (string (codes "print")) members)
-    else members
-
 -- the report for a certificate that is accepted for a file, with the file's number of records and drawings, its notes,
 -- and what it uses, by name
 abbrev pub accepted_report : OpenedValue → CertificateValue → ℕ → ℕ → List ℕ → Uses → Data
 accepted_report o c records drawings notes uses =
-    object (with_profile o.rules uses
+    object (with_allowed o.rules (uses_data uses.held_deletion uses.emf_plus)
+    (with_profile o.rules
     (put (codes "accepted") (boolean true)
     (put (codes "drawings") (whole drawings)
     (put (codes "format") (string (format_name o.format))
@@ -52,7 +38,7 @@ accepted_report o c records drawings notes uses =
     (put (codes "needs") (needs_data c.needs)
     (put (codes "notes") (notes_data notes)
     (put (codes "records") (whole records)
-    (put (codes "writes") (whole c.writes) no_members))))))))))
+    (put (codes "writes") (whole c.writes) no_members)))))))))))
 
 -- the report for a rejection: the code and name of the fault, the kind of record that it refers to, and the number of
 -- the record that it is in

@@ -1,15 +1,17 @@
 //! The report of a check, as JSON.
 
-ghost use Rattle.std.specs.Prelude.{◌≡◌, IfOk, OnOk};
-ghost use Rattle.serde_json.specs.View.{members_view, view};
+ghost use Rattle.std.specs.Prelude.{◌≡◌, IfOk};
+ghost use Rattle.serde_json.specs.View.{view};
 ghost use Rattle.report_parts.specs.Parts.{report_text};
-ghost use Rattle.commands.specs.CheckReport.{needs_data, put_used, rejected_report, uses_data, with_profile};
+ghost use Rattle.commands.specs.CheckReport.{needs_data, rejected_report};
 ghost use Rattle.commands.specs.ClearedFiles.{report_of};
 
 use dc_stack::Needs;
-use draw_ops::Rules;
-use preflight_cert::{Cleared, Refusal, Uses};
-use report_parts::{notes_value, pair_value, put_number, put_number_if, put_text, report_text_of};
+use preflight_cert::{Cleared, Refusal};
+use report_parts::{
+    notes_value, pair_value, put_allowed, put_number, put_number_if, put_profile, put_text,
+    report_text_of, uses_value,
+};
 use serde_json::{Map, Value, json, put};
 use std::alloc::{AllocError, Global};
 
@@ -35,6 +37,11 @@ fn accepted_value(alloc: Global, cleared: &Cleared<'_>) -> Result<Value, AllocEr
     let max = pair_value(alloc, certificate.max_width, certificate.max_height)?;
     let needs = needs_value(alloc, certificate.needs)?;
     let notes = notes_value(alloc, cleared.notes)?;
+    let uses = uses_value(
+        alloc,
+        cleared.uses.held_deletion,
+        cleared.uses.emf_plus,
+    )?;
     let mut members = Map::new(alloc);
     put_number(&mut members, alloc, "writes", certificate.writes)?;
     put_number(&mut members, alloc, "records", u64::from(cleared.records))?;
@@ -45,50 +52,9 @@ fn accepted_value(alloc: Global, cleared: &Cleared<'_>) -> Result<Value, AllocEr
     put_text(&mut members, alloc, "format", format)?;
     put_number(&mut members, alloc, "drawings", certificate.len() as u64)?;
     put(&mut members, alloc, "accepted", Value::from(true))?;
-    put_profile(&mut members, alloc, cleared.opened.rules, cleared.uses)?;
+    put_profile(&mut members, alloc, cleared.opened.rules)?;
+    put_allowed(&mut members, alloc, cleared.opened.rules, uses)?;
     Ok(Value::from(members))
-}
-
-/// Under the print profile, adds the profile and what the file uses of what the rules allow.
-fn put_profile(
-    members: &mut Map<String, Value>,
-    alloc: Global,
-    rules: Rules,
-    uses: Uses,
-) -> Result<(), AllocError>
-    ensures { OnOk result (members_view members.new.entries ≡ with_profile rules uses (members_view members.old.entries)) }
-{
-    if !rules.has_fine_plane() {
-        return Ok(());
-    }
-    put_text(members, alloc, "profile", "print")?;
-    let used = uses_value(alloc, uses)?;
-    put(members, alloc, "allowed", used)
-}
-
-/// What a file uses of what its rules allow, by name.
-fn uses_value(alloc: Global, uses: Uses) -> Result<Value, AllocError>
-    ensures { IfOk result (λ value. view value ≡ uses_data uses) }
-{
-    let mut members = Map::new(alloc);
-    put_used(&mut members, alloc, "held-deletion", uses.held_deletion)?;
-    put_used(&mut members, alloc, "emf-plus", uses.emf_plus)?;
-    Ok(Value::from(members))
-}
-
-/// Adds how often something is used, if it is.
-fn put_used(
-    members: &mut Map<String, Value>,
-    alloc: Global,
-    name: &str,
-    count: u32,
-) -> Result<(), AllocError>
-    ensures { OnOk result (members_view members.new.entries ≡ put_used name.now count (members_view members.old.entries)) }
-{
-    if count == 0 {
-        return Ok(());
-    }
-    put_number(members, alloc, name, u64::from(count))
 }
 
 /// The needs, by name.

@@ -1,7 +1,8 @@
 -- What is gathered of an opened file's records is the text of the certificate for it, and that is accepted.
-use Rattle.std.proofs.Common.{◌≡◌, ℕ, ◌<◌, ◌≤◌, ◌^◌, suc, Bool, true, false, ◌&&◌, not, ◌==◌, if◌then◌else◌, List, [], ◌∷◌, length, Option, Some, None, Ok, refl, ap, sym, subst, ◌∙◌, arith}
+use Rattle.std.proofs.Common.{◌≡◌, ℕ, ◌<◌, ◌≤◌, ◌^◌, suc, Bool, true, false, ◌&&◌, not, ◌==◌, if◌then◌else◌, List, [], ◌∷◌, length, Option, Some, None, Result, Ok, refl, ap, sym, subst, ◌∙◌, arith}
 use Rattle.std.specs.Prelude.{IfSome}
 use Rattle.std.specs.List.{All, flat_map}
+use Rattle.std.specs.Result.{ForOk}
 use Rattle.std.proofs.lemmas.Bool.{and_parts}
 use Rattle.std.proofs.lemmas.List.{length-map}
 use Rattle.std.proofs.lemmas.List.Elements.{All-cons, All-head, All-nil, All-tail}
@@ -10,6 +11,7 @@ use Rattle.mapping.specs.Limits.{IsSurfaceSide}
 use Rattle.mapping.specs.Surface.{Surface}
 use Rattle.draw_ops.specs.Content.{Content, StepValue}
 use Rattle.draw_ops.specs.RuleSets.{has_fine_plane}
+use Rattle.draw_ops.specs.declared.fault.Fault.{Fault}
 use Rattle.draw_ops.specs.declared.rules.Rules.{Rules}
 use Rattle.dc_stack.specs.Drawing.{Drawing, drawing_of, drawing_points}
 use Rattle.dc_stack.specs.MachineState.{MachineState}
@@ -27,7 +29,7 @@ use Rattle.preflight_cert.specs.DraftOf.{Holds, space_for}
 use Rattle.preflight_cert.specs.Drawings.{NumberedDrawing, drawing_then, drawings_of}
 use Rattle.preflight_cert.specs.Gathered.{Gathers, least_budget, least_entries, least_entry}
 use Rattle.preflight_cert.specs.NeedLaws.{NeedLaws}
-use Rattle.preflight_cert.specs.Preparation.{AreLeast, IsPrepared, PreparesRecords, have_single_pixels, version_for}
+use Rattle.preflight_cert.specs.Preparation.{AreLeast, HasBound, IsPrepared, PreparesRecords, have_single_pixels, version_for}
 use Rattle.preflight_cert.specs.PreparationLaws.{PreparationLaws}
 use Rattle.preflight_cert.specs.Stop.{stop_of}
 use Rattle.preflight_cert.specs.TextLaws.{IsCertificate, IsEntry, TextLaws}
@@ -41,6 +43,12 @@ use Rattle.preflight_cert.specs.declared.writing.Head.{Head}
 use Rattle.preflight_cert.proofs.DraftLemmas.{one_is, short_text, small_space}
 use Rattle.preflight_cert.proofs.BoundingBoxLemmas.{is_least}
 use Rattle.preflight_cert.proofs.StartLemmas.{IsAtStart}
+
+abbrev read_so : CertificateValue → Result CertificateValue Fault
+read_so c = Ok c
+
+same_value : (one other : CertificateValue) → read_so one ≡ read_so other → one ≡ other
+same_value one other e = cc
 
 -- what a certificate says in front of its entries
 abbrev a_head : ℕ → ℕ → ℕ → Needs → Head
@@ -188,11 +196,23 @@ module _ (content : Content) (o : OpenedValue) (records : List ℕ) (width heigh
           entries = by_version (has_fine_plane o.rules) (have_single_pixels made.entries) made.entries refl fit;
         }
 
-    -- so it is read as it was, and accepted
+    -- so it is read as it was
+    pub text_back : (text : List ℕ) → text ≡ gathered_text o.rules width height totals.writes new.needs after.version made.entries → NeedLaws → TextLaws → IsSurfaceSide width → IsSurfaceSide height → IfSome o.handles (λ n. n < 2 ^ 16) → totals.writes < 2 ^ 64
+        → totals.records ≤ 2 ^ 20 → read_certificate text ≡ Ok made
+    text_back text written needs texts wide high handles fits few =
+        ap read_certificate (text_is text written)
+        ∙ texts.reads_back o.rules made (is_certificate needs wide high handles fits few) (version_under o.rules made.entries)
+
+    pub bound_back : (text : List ℕ) → read_certificate text ≡ Ok made → ForOk (read_certificate text) (HasBound width height)
+    bound_back text back c read =
+        let same = same_value made c (sym back ∙ read) in
+        record { wide = ap (λ (v : CertificateValue). v.max_width) (sym same); high = ap (λ (v : CertificateValue). v.max_height) (sym same) }
+
+    -- and accepted
     pub records_read : (text : List ℕ) → text ≡ gathered_text o.rules width height totals.writes new.needs after.version made.entries → BoxLaws → NeedLaws → PreparationLaws → TextLaws → AnswerLaws → IsSurfaceSide width → IsSurfaceSide height → IfSome o.handles (λ n. n < 2 ^ 16) → totals.writes < 2 ^ 64
         → totals.records ≤ 2 ^ 20 → AnswersRead (read_certificate text) o records accepted
     records_read text written boxes needs preparation texts answers wide high handles fits few =
-        let back : read_certificate text ≡ Ok made = ap read_certificate (text_is text written) ∙ texts.reads_back o.rules made (is_certificate needs wide high handles fits few) (version_under o.rules made.entries) in
+        let back = text_back text written needs texts wide high handles fits few in
         let fitting = preparation.fits made o content width height (is_prepared boxes content o width height) unstopped in
         let answer : RecordsAnswer o records made accepted = record { content = content; of_records = of_records; answers = (answers.fits content o made).1 fitting } in
         rw back answer

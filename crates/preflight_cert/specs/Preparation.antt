@@ -73,6 +73,11 @@ abbrev pub PreparesIfOpened : Result OpenedValue Fault → List ℕ → ℕ → 
 PreparesIfOpened (Err fault) file width height bytes = ⊥
 PreparesIfOpened (Ok o) file width height bytes = PreparesRecords o (record_bytes o.format file) width height bytes
 
+-- a certificate is for surfaces of at most this size
+pub record HasBound (width height : ℕ) (c : CertificateValue) : Type 0 where
+  pub wide : c.max_width ≡ width
+  pub high : c.max_height ≡ height
+
 -- a surface may have this size
 abbrev pub is_bound : ℕ → ℕ → Bool
 is_bound width height = is_surface_side width && is_surface_side height
