@@ -59,7 +59,7 @@ IsPlaying rules file (Stops r) = Rejected rules file surface_side_limit surface_
 -- What is known of a file under rules: its format, the sizes in its headers, the totals of its records, and how its run
 -- on the largest surface ends.
 pub record IsInfoOf (rules : Rules) (file : List ℕ) (info : FileInfo) : Type 0 where
-  pub rules : info.rules ≡ rules
+  pub under : info.rules ≡ rules
   pub format : info.format ≡ format_of file
   pub sizes : info.sizes ≡ sizes_if (opened file) file
   pub totals : HasTotals info.totals (totals_of rules file)

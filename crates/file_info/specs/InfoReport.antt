@@ -124,6 +124,14 @@ first_members info =
     (put (codes "error") null
     (put (codes "fault") (text_if (fault_if info.playing)) no_members)))))
 
+-- four members more for how the file's run ends
+abbrev pub with_playing : Playing → Members → Members
+with_playing playing members =
+    put (codes "number") (whole_if (kind_if playing))
+    (put (codes "objects") (whole_if (objects_if playing))
+    (put (codes "plays") (boolean (is_playing playing))
+    (put (codes "record") (whole_if (record_if playing)) members)))
+
 -- the members after `faults`
 abbrev pub last_members : List ℕ → FileInfo → Members
 last_members name info =
@@ -132,12 +140,9 @@ last_members name info =
     (put (codes "format") (format_data info.format)
     (put (codes "frame") (frame_data info.sizes)
     (put (codes "notes") (notes_data info.totals.notes.counts)
-    (put (codes "number") (whole_if (kind_if info.playing))
-    (put (codes "objects") (whole_if (objects_if info.playing))
-    (put (codes "plays") (boolean (is_playing info.playing))
-    (put (codes "record") (whole_if (record_if info.playing))
+    (with_playing info.playing
     (put (codes "records") (records_data info.format info.totals.records)
-    (put (codes "size") (size_data (paper_if info.sizes)) no_members))))))))))
+    (put (codes "size") (size_data (paper_if info.sizes)) no_members)))))))
 
 -- the report about the file with this name
 abbrev pub info_data : List ℕ → FileInfo → Data

@@ -5,7 +5,7 @@ ghost use Rattle.serde_json.specs.Data.{object, string};
 ghost use Rattle.serde_json.specs.View.{members_view, view};
 ghost use Rattle.serde_json.specs.Written.{compact_text};
 ghost use Rattle.report_parts.specs.Parts.{report_text};
-ghost use Rattle.file_info.specs.InfoReport.{counted_items, first_members, info_line, last_members, unread_data, with_last_unknown};
+ghost use Rattle.file_info.specs.InfoReport.{counted_items, first_members, info_line, last_members, unread_data, with_last_unknown, with_playing};
 ghost use Rattle.file_info.specs.JoinedText.{PutsFaults, faults_head};
 
 use crate::counted_text::put_counted;
@@ -14,6 +14,7 @@ use crate::info::FileInfo;
 use crate::info_values::{
     box_value, dots_value, format_value, frame_value, paper_of, records_value, size_value,
 };
+use crate::playing::Playing;
 use crate::playing_values::{
     allowed_value, drawings_value, fault_value, kind_value, objects_value, record_value,
 };
@@ -77,21 +78,27 @@ fn last_value(alloc: Global, name: &str, info: &FileInfo) -> Result<Value, Alloc
         "records",
         records_value(info.format, info.totals.records),
     )?;
-    put(&mut members, alloc, "record", record_value(info.playing))?;
-    put(
-        &mut members,
-        alloc,
-        "plays",
-        Value::from(info.playing.is_playing()),
-    )?;
-    put(&mut members, alloc, "objects", objects_value(info.playing))?;
-    put(&mut members, alloc, "number", kind_value(info.playing))?;
+    put_playing(&mut members, alloc, info.playing)?;
     put(&mut members, alloc, "notes", notes)?;
     put(&mut members, alloc, "frame", frame)?;
     put(&mut members, alloc, "format", format)?;
     put_text(&mut members, alloc, "file", name)?;
     put_profile(&mut members, alloc, info.rules)?;
     Ok(Value::from(members))
+}
+
+/// Adds how the file's run ends.
+fn put_playing(
+    members: &mut Map<String, Value>,
+    alloc: Global,
+    playing: Playing,
+) -> Result<(), AllocError>
+    ensures { OnOk result (members_view members.new.entries ≡ with_playing playing (members_view members.old.entries)) }
+{
+    put(members, alloc, "record", record_value(playing))?;
+    put(members, alloc, "plays", Value::from(playing.is_playing()))?;
+    put(members, alloc, "objects", objects_value(playing))?;
+    put(members, alloc, "number", kind_value(playing))
 }
 
 /// Puts the member `faults` in place of the brace at the end of a text, and a comma after it.
