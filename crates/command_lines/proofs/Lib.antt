@@ -2,6 +2,12 @@ pub mod AppLemmas
 pub mod AskedLemmas
 pub mod InfoLemmas
 pub mod KindLemmas
+pub mod OpenLemmas
+pub mod RowLemmas
+pub mod RuledLemmas
 pub mod SideLemmas
 pub mod TakenLemmas
+pub mod TwiceLemmas
+pub mod UsageLemmas
 pub mod WordLemmas
+pub mod WrongLemmas

@@ -37,11 +37,7 @@ fn accepted_value(alloc: Global, cleared: &Cleared<'_>) -> Result<Value, AllocEr
     let max = pair_value(alloc, certificate.max_width, certificate.max_height)?;
     let needs = needs_value(alloc, certificate.needs)?;
     let notes = notes_value(alloc, cleared.notes)?;
-    let uses = uses_value(
-        alloc,
-        cleared.uses.held_deletion,
-        cleared.uses.emf_plus,
-    )?;
+    let uses = uses_value(alloc, cleared.uses.held_deletion, cleared.uses.emf_plus)?;
     let mut members = Map::new(alloc);
     put_number(&mut members, alloc, "writes", certificate.writes)?;
     put_number(&mut members, alloc, "records", u64::from(cleared.records))?;

@@ -12,10 +12,10 @@ use draw_ops::Rules;
 use std::io::Read;
 use std::rt::Files;
 
-/// Writes one line of JSON about each file under these rules to `out`, in the order of the names. Files are read one at a time. The
-/// command ends as the worst of the files does: `Rejected` if one doesn't play, `CannotRead` if one can't be read, and
-/// `OutOfMemory` if there isn't enough memory for one. Then the other files still have their lines, unless there is no
-/// memory even for a line.
+/// Writes one line of JSON about each file under these rules to `out`, in the order of the names. Files are read one at
+/// a time. The command ends as the worst of the files does: `Rejected` if one doesn't play, `CannotRead` if one can't be
+/// read, and `OutOfMemory` if there isn't enough memory for one. Then the other files still have their lines, unless
+/// there is no memory even for a line.
 #[inline(never)]
 pub fn info_command<R, I, O, E>(
     rt: &R,

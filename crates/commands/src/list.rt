@@ -38,8 +38,8 @@ pub fn list_command<O: FaultCount, E: FaultCount>(
 }
 
 /// Lists the records of a file to `out`, one line per record, with the faults that runs of the file under these rules
-/// have there on surfaces of any size. How the command ends says whether the records end with an end record. A listing writes nothing
-/// to `err`, and a fault of `err` doesn't change the status.
+/// have there on surfaces of any size. How the command ends says whether the records end with an end record. A listing
+/// writes nothing to `err`, and a fault of `err` doesn't change the status.
 #[inline(never)]
 pub fn list_command_by<O: FaultCount, E: FaultCount>(
     alloc: Global,

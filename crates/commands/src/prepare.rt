@@ -41,8 +41,9 @@ pub fn prepare_command<O: FaultCount, E: FaultCount>(
     prepare_command_by(alloc, Rules::CORE, file, width, height, out, err)
 }
 
-/// Prepares a file's certificate under these rules for surfaces of at most this size, and writes it to `out` after the whole file has
-/// been examined. If the file is rejected, one line goes to `err`. A fault of `err` doesn't change the status.
+/// Prepares a file's certificate under these rules for surfaces of at most this size, and writes it to `out` after the
+/// whole file has been examined. If the file is rejected, one line goes to `err`. A fault of `err` doesn't change the
+/// status.
 pub fn prepare_command_by<O: FaultCount, E: FaultCount>(
     alloc: Global,
     rules: Rules,

@@ -2,6 +2,7 @@
 
 ghost use Rattle.std.specs.Prelude.{◌≡◌, ◌⊎◌, IfErr, IfOk};
 ghost use Rattle.std.specs.Result.{ForOk};
+ghost use Rattle.draw_ops.specs.RuleSets.{in_force};
 ghost use Rattle.mapping.specs.Limits.{IsSurfaceSide};
 ghost use Rattle.meta_headers.specs.File.{IsOpenedFrom};
 ghost use Rattle.preflight_cert.specs.Answer.{IsAnswer, accepted};
@@ -15,8 +16,8 @@ use draw_ops::{Fault, Rules};
 use preflight_cert::{Prepared, Refusal};
 use std::alloc::Global;
 
-/// Prepares a file's certificate under these rules for surfaces of at most this size. The size is valid, so any rejection is a fault of
-/// the file's run.
+/// Prepares a file's certificate under these rules for surfaces of at most this size. The size is valid, so any
+/// rejection is a fault of the file's run.
 pub(crate) fn prepare_file<'a>(
     alloc: Global,
     rules: Rules,
@@ -30,6 +31,7 @@ pub(crate) fn prepare_file<'a>(
     ensures accepted { IfOk result (λ prepared. IsAnswer file.now prepared.text.items accepted) }
     ensures sides { IfOk result (λ prepared. ForOk (read_certificate prepared.text.items) (HasBound width height)) }
     ensures opened { IfOk result (λ prepared. IsOpenedFrom file.now prepared.opened) }
+    ensures rules { IfOk result (λ prepared. prepared.opened.rules ≡ in_force rules) }
     ensures refusal { IfErr result (λ r. Rejected rules file.now width height r.number r.fault ⊎ IsWantOfMemory r) }
     ensures memory { IfErr result (λ r. r.fault ≡ Fault.OutOfMemory → Opens file.now) }
 {

@@ -14,6 +14,7 @@ use crate::playing::{AskedSurface, write_played};
 use crate::preparing::prepare_file;
 use canvas::FaultCount;
 use draw_ops::Rules;
+use meta_headers::opening_law;
 use std::alloc::Global;
 
 /// The same as `show_command_by`, under the core rules.
@@ -39,8 +40,9 @@ pub fn show_command<O: FaultCount, E: FaultCount>(
     show_command_by(alloc, Rules::CORE, file, width, height, out, err)
 }
 
-/// Prepares a file under these rules at the size of a surface, plays it on white, and writes the image to `out` as P6 text. If the file
-/// is rejected, one line goes to `err` and no byte to `out`. A fault of `err` doesn't change the status.
+/// Prepares a file under these rules at the size of a surface, plays it on white, and writes the image to `out` as P6
+/// text. If the file is rejected, one line goes to `err` and no byte to `out`. A fault of `err` doesn't change the
+/// status.
 #[inline(never)]
 pub fn show_command_by<O: FaultCount, E: FaultCount>(
     alloc: Global,
@@ -94,5 +96,6 @@ fn show_file<O: FaultCount>(
         height,
         bands: None,
     };
+    opening_law();
     write_played(alloc, &prepared.clear(), asked, out)
 }

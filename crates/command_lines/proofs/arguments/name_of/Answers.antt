@@ -3,7 +3,7 @@ use Rattle.std.proofs.Common.{◌≡◌, ◌∙◌, sym, refl, List, ℕ, Option
 use Rattle.clap.specs.Words.{Text, first_of, first_value, found_of, rows_of}
 use Rattle.clap.specs.declared.parser.matches.Found.{Found}
 use Rattle.clap.proofs.WalkLemmas.{first_value-rows}
-use Rattle.command_lines.proofs.command_line.name_of.Goals as goal
+use Rattle.command_lines.proofs.arguments.name_of.Goals as goal
 
 named : (r : Option (Bor (List ℕ))) (f : Found) (id : Text) → option_map (λ s. s.now) r ≡ first_value f id → IfSome r (λ name. first_of id (rows_of f) ≡ Some name.now)
 named None f id e = tt

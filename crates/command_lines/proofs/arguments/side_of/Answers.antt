@@ -9,8 +9,8 @@ use Rattle.clap.specs.declared.parser.matches.Found.{Found}
 use Rattle.clap.proofs.WalkLemmas.{one_text-rows}
 use Rattle.command_lines.specs.CommandLine.{GivesNumber, GivesSide}
 use Rattle.command_lines.proofs.SideLemmas.{fits_unsigned, no_plus}
-use Rattle.command_lines.proofs.command_line.side_of.Goals as goal
-use Rattle.command_lines.proofs.command_line.side_of.Goals.{then-side-ge1, else-side-ge1}
+use Rattle.command_lines.proofs.arguments.side_of.Goals as goal
+use Rattle.command_lines.proofs.arguments.side_of.Goals.{then-side-ge1, else-side-ge1}
 
 given : (E : Type 0) (gives : Text → Result ℕ E → Type 0) (f : Found) (id : Text) (number : ℕ) → (one_text f id ≡ None → Some number ≡ None) → ((text : Text) → one_text f id ≡ Some text → gives text (Ok number)) → ((text : Text) → gives text (Ok number) → ParsesUnsigned {E = E} 32 10 text (Ok number)) → GivesNumber (rows_of f) id number
 given E gives f id number none value parses = go (one_text f id) refl

@@ -1,7 +1,7 @@
 -- The way the command ends says what was written and reported, whether the output failed, and that a finished text is
 -- flushed.
 use Rattle.commands.proofs.FailureLemmas.{done_by, fails_by, holds_by, printed_by, written_by}
-use Rattle.commands.proofs.show.show_command.Goals as goal
+use Rattle.commands.proofs.show.show_command_by.Goals as goal
 
 pub returns-clause-written : goal.returns-clause-written
 returns-clause-written g c = written_by _ c.show_file-done.result c.ending.result _ _ c.ending.ensures.end c.show_file-done.ensures.done c.show_file-done.ensures.failed

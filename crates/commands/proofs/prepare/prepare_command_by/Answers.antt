@@ -1,7 +1,7 @@
 -- The way the command ends says what was written and reported, whether the output failed, and that a finished text is
 -- flushed.
 use Rattle.commands.proofs.FailureLemmas.{done_by, fails_by, holds_by, printed_by, written_by}
-use Rattle.commands.proofs.prepare.prepare_command.Goals as goal
+use Rattle.commands.proofs.prepare.prepare_command_by.Goals as goal
 
 pub returns-clause-written : goal.returns-clause-written
 returns-clause-written g c = written_by _ c.write_prepared-done.result c.ending.result _ _ c.ending.ensures.end c.write_prepared-done.ensures.done c.write_prepared-done.ensures.failed

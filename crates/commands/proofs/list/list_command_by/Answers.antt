@@ -1,5 +1,5 @@
 -- However the command ends, what the law of listings says about any file holds for this one.
-use Rattle.commands.proofs.list.list_command.Goals as goal
+use Rattle.commands.proofs.list.list_command_by.Goals as goal
 
 pub returns-in-Ok-Ended-clause-each_stop : goal.returns-in-Ok-Ended-clause-each_stop
 returns-in-Ok-Ended-clause-each_stop g c = c.listing_law.ensures.stops c.args.file.now
