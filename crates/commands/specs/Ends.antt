@@ -96,6 +96,13 @@ PrintsBy end.WrongUsage task printed old new = ⊥
 PrintsBy end.CannotRead task printed old new = ⊥
 
 module _ {W : Type 0} where
+  -- a text with some property, or a prefix of one, was written to a writer with these contents
+  abbrev pub WritesWith : (List ℕ → Type 0) → (W → Option (List ℕ)) → W → W → Type 0
+  WritesWith holds contents old new = WritesText holds (contents old) (contents new)
+
+  abbrev pub WritesPrefixWith : (List ℕ → Type 0) → (W → Option (List ℕ)) → W → W → Type 0
+  WritesPrefixWith holds contents old new = WritesPrefix holds (contents old) (contents new)
+
   -- a task is done, and its text was written to a writer with these contents
   abbrev pub WritesDone : Task → (W → Option (List ℕ)) → W → W → Type 0
   WritesDone task contents old new = WritesText (IsDoneBy task) (contents old) (contents new)

@@ -1,6 +1,8 @@
 -- What `info` writes, and what it reports.
 use Rattle.std.specs.Prelude.{◌≡◌, ◌↔◌, ◌++◌, ℕ, Bool, List, [], ◌∷◌, Option, codes, flat_map, fold, if◌then◌else◌, nat_lt, true, false}
+use Rattle.std.specs.Borrow.{Bor}
 use Rattle.std.specs.List.{AllZip}
+use Rattle.command_lines.specs.InfoWords.{names_in}
 use Rattle.draw_ops.specs.declared.rules.Rules.{Rules}
 use Rattle.file_info.specs.Info.{IsInfoOf, PlaysEverywhere, is_playing}
 use Rattle.file_info.specs.InfoReport.{info_line, unread_data}
@@ -93,8 +95,8 @@ InfoPrints ending printed old new = PrintsNothing printed old new
 
 module _ {W : Type 0} where
   -- what `info` writes to a writer with these contents, and what it reports on one
-  abbrev pub WritesInfo : List (List ℕ) → Rules → Option (List ℕ) → CommandEnd → (W → Option (List ℕ)) → W → W → Type 0
-  WritesInfo names rules input ending contents old new = InfoWrites ending names rules input (contents old) (contents new)
+  abbrev pub WritesInfo : List (Bor (List ℕ)) → Rules → Option (List ℕ) → CommandEnd → (W → Option (List ℕ)) → W → W → Type 0
+  WritesInfo names rules input ending contents old new = InfoWrites ending (names_in names) rules input (contents old) (contents new)
 
   abbrev pub PrintsInfo : CommandEnd → Printed → (W → Option (List ℕ)) → W → W → Type 0
   PrintsInfo ending printed contents old new = InfoPrints ending printed (contents old) (contents new)

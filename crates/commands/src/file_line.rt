@@ -30,7 +30,7 @@ pub(crate) fn file_line<R: Files + AllocGlobal, I: Read>(
     name: &str,
     input: &mut I,
 ) -> Result<FileLine, AllocError>
-    ensures line { IfOk result (λ line. IsLineBy line.end rules name.entry.now (I.remaining input.old) line.text.items) }
+    ensures line { IfOk result (λ it. IsLineBy it.end rules name.entry.now (I.remaining input.old) it.text.items) }
     ensures unread { name.entry.now ≢ standard_input → Keeps (I.remaining input.old) (I.remaining input.new) }
 {
     match read_file(rt, name, input) {

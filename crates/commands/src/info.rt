@@ -33,7 +33,7 @@ where
     requires once { HasOneInput (names_in names.now) }
     requires capacity_out { O.fault_count out.old < 2 ^ 64 - 1 }
     requires capacity_err { E.fault_count err.old < 2 ^ 64 - 1 }
-    ensures written { WritesInfo (names_in names.now) rules (I.remaining input.old) result.end O.contents out.old out.new }
+    ensures written { WritesInfo names.now rules (I.remaining input.old) result.end O.contents out.old out.new }
     ensures printed { PrintsInfo result.end result.printed E.contents err.old err.new }
     ensures cannot_write { result.end ≡ CommandEnd.CannotWrite → O.fault_count out.old < O.fault_count out.new }
     ensures flushed { result.end ≡ CommandEnd.Done → O.is_flushed out.new ≡ true }
@@ -70,7 +70,7 @@ fn send_lines<R: Files + AllocGlobal, I: Read, O: FaultCount>(
 ) -> CommandEnd
     requires once { HasOneInput (names_in names.now) }
     requires capacity { O.fault_count out.old < 2 ^ 64 - 1 }
-    ensures written { WritesInfo (names_in names.now) rules (I.remaining input.old) result O.contents out.old out.new }
+    ensures written { WritesInfo names.now rules (I.remaining input.old) result O.contents out.old out.new }
     ensures fault { result ≡ CommandEnd.CannotWrite → O.fault_count out.old < O.fault_count out.new }
     ensures flushed { result ≡ CommandEnd.Done → O.is_flushed out.new ≡ true }
 {

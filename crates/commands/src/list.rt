@@ -1,7 +1,7 @@
 //! The command `list`.
 
 ghost use Rattle.std.specs.Prelude.{◌≡◌, ◌⊎◌, ◌-◌, ◌^◌, ◌<◌, IfOk, OnErr, OnOk, true};
-ghost use Rattle.commands.specs.Ends.{Prints, Writes, WritesPrefix, WritesText};
+ghost use Rattle.commands.specs.Ends.{Prints, Writes, WritesPrefixWith, WritesWith};
 ghost use Rattle.draw_ops.specs.RuleSets.{core_rules};
 ghost use Rattle.preflight_cert.specs.Reached.{Opens};
 ghost use Rattle.commands.specs.Listings.{IsListing, Lists};
@@ -91,8 +91,8 @@ fn send_listing<'a, O: FaultCount>(
 ) -> Result<ListingEnd, WriteFault>
     requires dry_run { dry_run ≡ dry_run_state_of rules file.now }
     requires capacity { O.fault_count out.old < 2 ^ 64 - 1 }
-    ensures ok { IfOk result (λ listed. WritesText (Lists rules file.now listed) (O.contents out.old) (O.contents out.new)) }
-    ensures err { OnErr result (WritesPrefix (IsListing rules file.now) (O.contents out.old) (O.contents out.new)) }
+    ensures ok { IfOk result (λ listed. WritesWith (Lists rules file.now listed) O.contents out.old out.new) }
+    ensures err { OnErr result (WritesPrefixWith (IsListing rules file.now) O.contents out.old out.new) }
     ensures fault { OnErr result (O.fault_count out.old < O.fault_count out.new) }
     ensures flushed { OnOk result (O.is_flushed out.new ≡ true) }
 {

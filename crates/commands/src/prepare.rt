@@ -3,7 +3,7 @@
 ghost use Rattle.std.specs.Prelude.{◌≡◌, ◌-◌, ◌^◌, ◌<◌, IfErr, OnErr, OnOk, true};
 ghost use Rattle.draw_ops.specs.RuleSets.{core_rules};
 ghost use Rattle.mapping.specs.Limits.{IsSurfaceSide};
-ghost use Rattle.commands.specs.Ends.{IsDoneBy, Prints, Writes, WritesText};
+ghost use Rattle.commands.specs.Ends.{Prints, Writes, WritesDone};
 ghost use Rattle.preflight_cert.specs.Reached.{Opens};
 ghost use Rattle.commands.specs.Failures.{FailsWith};
 ghost use Rattle.commands.specs.Tasks.{prepare};
@@ -80,7 +80,7 @@ fn write_prepared<O: FaultCount>(
     requires wide { IsSurfaceSide width }
     requires high { IsSurfaceSide height }
     requires capacity { O.fault_count out.old < 2 ^ 64 - 1 }
-    ensures done { OnOk result (WritesText (IsDoneBy (prepare rules file.now width height)) (O.contents out.old) (O.contents out.new)) }
+    ensures done { OnOk result (WritesDone (prepare rules file.now width height) O.contents out.old out.new) }
     ensures failed { IfErr result (FailsWith (prepare rules file.now width height) O.contents out.old out.new) }
     ensures memory { IfErr result (λ failure. failure ≡ Failure.OutOfMemory → Opens file.now) }
     ensures fault { IfErr result (λ failure. failure ≡ Failure.CannotWrite → O.fault_count out.old < O.fault_count out.new) }

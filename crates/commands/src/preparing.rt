@@ -1,13 +1,11 @@
 //! Preparing a file's certificate for a surface.
 
 ghost use Rattle.std.specs.Prelude.{◌≡◌, ◌⊎◌, IfErr, IfOk};
-ghost use Rattle.std.specs.Result.{ForOk};
 ghost use Rattle.draw_ops.specs.RuleSets.{in_force};
 ghost use Rattle.mapping.specs.Limits.{IsSurfaceSide};
 ghost use Rattle.meta_headers.specs.File.{IsOpenedFrom};
 ghost use Rattle.preflight_cert.specs.Answer.{IsAnswer, accepted};
-ghost use Rattle.preflight_cert.specs.CertificateReading.{read_certificate};
-ghost use Rattle.preflight_cert.specs.Preparation.{HasBound, Prepares};
+ghost use Rattle.preflight_cert.specs.Preparation.{IsForBound, Prepares};
 ghost use Rattle.preflight_cert.specs.Reached.{Opens};
 ghost use Rattle.preflight_cert.specs.Refusal.{IsWantOfMemory};
 ghost use Rattle.preflight_cert.specs.Run.{Rejected};
@@ -29,7 +27,7 @@ pub(crate) fn prepare_file<'a>(
     requires high { IsSurfaceSide height }
     ensures text { IfOk result (λ prepared. Prepares rules file.now width height prepared.text.items) }
     ensures accepted { IfOk result (λ prepared. IsAnswer file.now prepared.text.items accepted) }
-    ensures sides { IfOk result (λ prepared. ForOk (read_certificate prepared.text.items) (HasBound width height)) }
+    ensures sides { IfOk result (λ prepared. IsForBound width height prepared.text.items) }
     ensures opened { IfOk result (λ prepared. IsOpenedFrom file.now prepared.opened) }
     ensures rules { IfOk result (λ prepared. prepared.opened.rules ≡ in_force rules) }
     ensures refusal { IfErr result (λ r. Rejected rules file.now width height r.number r.fault ⊎ IsWantOfMemory r) }

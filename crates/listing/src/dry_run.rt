@@ -72,7 +72,7 @@ impl<'a> SmallestRun<'a> {
     /// smallest surface, and then nothing has changed.
     fn play(&mut self, step: &Step<'a>) -> Result<Option<RecordFault>, Fault>
         ensures no_fault { OnOk result (fault_of (operation_of step.now.op) self.old.state self.old.smallest ≡ None) }
-        ensures there { IfOk result (λ met. met ≡ fault_met (operation_of step.now.op) self.old.state self.old.largest) }
+        ensures there { IfOk result (λ it. it ≡ fault_met (operation_of step.now.op) self.old.state self.old.largest) }
         ensures played { OnOk result (self.new ≡ after_played (step_value_of step.now) self.old) }
         ensures on_smallest { IfErr result (HasFault (operation_of step.now.op) self.old.state self.old.smallest) }
         ensures kept { OnErr result (self.new ≡ self.old) }

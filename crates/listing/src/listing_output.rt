@@ -1,11 +1,10 @@
 //! Writing the listing of a file.
 
 ghost use Rattle.std.specs.Prelude.{◌≡◌, ◌+◌, ◌-◌, ◌^◌, ◌<◌, ◌≤◌, IfOk, OnErr, OnOk, length};
-ghost use Rattle.std.specs.Io.KnownBytes.{Appends};
-ghost use Rattle.canvas.specs.Ppm.{AppendsPrefix};
 ghost use Rattle.meta_headers.specs.Opening.{framing_of};
 ghost use Rattle.listing.specs.Listing.{framed_records, listed_by, listed_of, listing_in, listing_with, no_format_line};
 ghost use Rattle.listing.specs.Putting.{PutsNext, coming};
+ghost use Rattle.listing.specs.Sent.{Sends, SendsPrefix};
 ghost use Rattle.canvas.specs.Sending.{Sending};
 
 use crate::dry_run::DryRun;
@@ -35,8 +34,8 @@ pub fn write_listing<'a, W: Write>(
     out: &mut W,
 ) -> Result<ListingEnd, WriteFault>
     ensures listed { IfOk result (λ listed. listed ≡ listed_of file.now) }
-    ensures ok { OnOk result (Appends (W.contents out.old) (W.contents out.new) (listing_with dry_run.entry file.now)) }
-    ensures err { OnErr result (AppendsPrefix (W.contents out.old) (W.contents out.new) (listing_with dry_run.entry file.now)) }
+    ensures ok { OnOk result (Sends W.contents out.old out.new (listing_with dry_run.entry file.now)) }
+    ensures err { OnErr result (SendsPrefix W.contents out.old out.new (listing_with dry_run.entry file.now)) }
 {
     write_by::<W, Uncounted>(file, &mut dry_run, out)
 }
@@ -50,8 +49,8 @@ pub fn write_listing_to<'a, W: FaultCount>(
 ) -> Result<ListingEnd, WriteFault>
     requires capacity { W.fault_count out.old < 2 ^ 64 - 1 }
     ensures listed { IfOk result (λ listed. listed ≡ listed_of file.now) }
-    ensures ok { OnOk result (Appends (W.contents out.old) (W.contents out.new) (listing_with dry_run.entry file.now)) }
-    ensures err { OnErr result (AppendsPrefix (W.contents out.old) (W.contents out.new) (listing_with dry_run.entry file.now)) }
+    ensures ok { OnOk result (Sends W.contents out.old out.new (listing_with dry_run.entry file.now)) }
+    ensures err { OnErr result (SendsPrefix W.contents out.old out.new (listing_with dry_run.entry file.now)) }
     ensures fault { OnErr result (W.fault_count out.old < W.fault_count out.new) }
     ensures capacity { OnOk result (W.fault_count out.new < 2 ^ 64 - 1) }
     ensures count { W.fault_count out.old ≤ W.fault_count out.new }
@@ -67,8 +66,8 @@ fn write_by<'a, W: Write, S: Sender<W>>(
 ) -> Result<ListingEnd, WriteFault>
     requires capacity { S.faults out.old + S.counted < 2 ^ 64 }
     ensures listed { IfOk result (λ listed. listed ≡ listed_of file.now) }
-    ensures ok { OnOk result (Appends (W.contents out.old) (W.contents out.new) (listing_with dry_run.old file.now)) }
-    ensures err { OnErr result (AppendsPrefix (W.contents out.old) (W.contents out.new) (listing_with dry_run.old file.now)) }
+    ensures ok { OnOk result (Sends W.contents out.old out.new (listing_with dry_run.old file.now)) }
+    ensures err { OnErr result (SendsPrefix W.contents out.old out.new (listing_with dry_run.old file.now)) }
     ensures fault { OnErr result (S.faults out.old + S.counted ≤ S.faults out.new) }
     ensures capacity { OnOk result (S.faults out.new + S.counted < 2 ^ 64) }
     ensures count { S.faults out.old ≤ S.faults out.new }
@@ -83,8 +82,8 @@ fn write_by<'a, W: Write, S: Sender<W>>(
 fn write_none<W: Write, S: Sender<W>>(out: &mut W) -> Result<ListingEnd, WriteFault>
     requires { S.faults out.old + S.counted < 2 ^ 64 }
     ensures listed { IfOk result (λ listed. listed ≡ ListingEnd.Broken) }
-    ensures ok { OnOk result (Appends (W.contents out.old) (W.contents out.new) (no_format_line)) }
-    ensures err { OnErr result (AppendsPrefix (W.contents out.old) (W.contents out.new) (no_format_line)) }
+    ensures ok { OnOk result (Sends W.contents out.old out.new (no_format_line)) }
+    ensures err { OnErr result (SendsPrefix W.contents out.old out.new (no_format_line)) }
     ensures fault { OnErr result (S.faults out.old + S.counted ≤ S.faults out.new) }
     ensures capacity { OnOk result (S.faults out.new + S.counted < 2 ^ 64) }
     ensures count { S.faults out.old ≤ S.faults out.new }
@@ -104,8 +103,8 @@ fn write_in<'a, W: Write, S: Sender<W>>(
 ) -> Result<ListingEnd, WriteFault>
     requires capacity { S.faults out.old + S.counted < 2 ^ 64 }
     ensures listed { IfOk result (λ listed. listed ≡ listed_by (framed_records format file.now)) }
-    ensures ok { OnOk result (Appends (W.contents out.old) (W.contents out.new) (listing_in format dry_run.old file.now)) }
-    ensures err { OnErr result (AppendsPrefix (W.contents out.old) (W.contents out.new) (listing_in format dry_run.old file.now)) }
+    ensures ok { OnOk result (Sends W.contents out.old out.new (listing_in format dry_run.old file.now)) }
+    ensures err { OnErr result (SendsPrefix W.contents out.old out.new (listing_in format dry_run.old file.now)) }
     ensures fault { OnErr result (S.faults out.old + S.counted ≤ S.faults out.new) }
     ensures capacity { OnOk result (S.faults out.new + S.counted < 2 ^ 64) }
     ensures count { S.faults out.old ≤ S.faults out.new }
@@ -127,8 +126,8 @@ fn write_lines<'a, F: Format, W: Write, S: Sender<W>>(
     requires framing { framing_of format ≡ F.framing }
     requires capacity { S.faults out.old + S.counted < 2 ^ 64 }
     ensures listed { IfOk result (λ listed. listed ≡ listed_by (framed_records format file.now)) }
-    ensures ok { OnOk result (Appends (W.contents out.old) (W.contents out.new) (listing_in format dry_run.old file.now)) }
-    ensures err { OnErr result (AppendsPrefix (W.contents out.old) (W.contents out.new) (listing_in format dry_run.old file.now)) }
+    ensures ok { OnOk result (Sends W.contents out.old out.new (listing_in format dry_run.old file.now)) }
+    ensures err { OnErr result (SendsPrefix W.contents out.old out.new (listing_in format dry_run.old file.now)) }
     ensures fault { OnErr result (S.faults out.old + S.counted ≤ S.faults out.new) }
     ensures capacity { OnOk result (S.faults out.new + S.counted < 2 ^ 64) }
     ensures count { S.faults out.old ≤ S.faults out.new }
@@ -153,7 +152,7 @@ fn ensure_capacity<W: Write, S: Sender<W>>(
     requires { S.faults out.old + S.counted < 2 ^ 64 }
     ensures line { OnOk result (length buffer.new + 512 ≤ 8192) }
     ensures sent { OnOk result (Sending (W.contents out.old) (W.contents out.new) buffer.old buffer.new) }
-    ensures err { OnErr result (AppendsPrefix (W.contents out.old) (W.contents out.new) buffer.old) }
+    ensures err { OnErr result (SendsPrefix W.contents out.old out.new buffer.old) }
     ensures fault { OnErr result (S.faults out.old + S.counted ≤ S.faults out.new) }
     ensures capacity { OnOk result (S.faults out.new + S.counted < 2 ^ 64) }
     ensures count { S.faults out.old ≤ S.faults out.new }

@@ -30,6 +30,10 @@ pub record Awaits (rules : Rules) (draft : Draft) (entries : List Entry) (entry 
   pub version : draft.version ≡ version_for rules (entries ++ (entry ∷ []))
   pub standing : StandIn (space_for rules) draft.version draft.text.items entries
 
+-- a draft has the version that one entry more needs, whatever its rules and its entries
+abbrev pub AwaitsEntry : Draft → Draft → Entry → Type 0
+AwaitsEntry old new entry = (rules : Rules) (entries : List Entry) → Holds rules old entries → Awaits rules new entries entry
+
 -- entries were added after those that a draft had, whatever its rules
 abbrev pub Adds : Draft → Draft → List Entry → Type 0
 Adds old new entries = (rules : Rules) (before : List Entry) → Holds rules old before → Holds rules new (before ++ entries)

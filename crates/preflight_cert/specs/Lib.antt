@@ -40,4 +40,5 @@ pub mod Gathered
 pub mod StoppedRecords
 pub mod OpenedRecords
 pub mod ClearedFacts
+pub mod PreparedFacts
 pub mod ObjectOrder

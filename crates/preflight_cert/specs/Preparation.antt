@@ -2,6 +2,7 @@
 use Rattle.std.specs.Prelude.{◌≡◌, ℕ, Bool, true, false, ◌&&◌, ◌==◌, not, if◌then◌else◌, List, [], ◌∷◌, Option, None, Result, Ok, Err}
 use Rattle.mapping.specs.Boxes.{IsBoundingBox}
 use Rattle.std.specs.List.{list_all}
+use Rattle.std.specs.Result.{ForOk}
 use Rattle.mapping.specs.Limits.{is_surface_side}
 use Rattle.mapping.specs.Surface.{Surface}
 use Rattle.draw_ops.specs.Content.{Content}
@@ -16,7 +17,7 @@ use Rattle.meta_headers.specs.Opening.{HasContentOf, record_bytes, surface_for}
 use Rattle.meta_headers.specs.OpeningRules.{opened_by}
 use Rattle.preflight_cert.specs.After.{file_needs}
 use Rattle.preflight_cert.specs.Answer.{file_budget}
-use Rattle.preflight_cert.specs.CertificateReading.{CertificateValue}
+use Rattle.preflight_cert.specs.CertificateReading.{CertificateValue, read_certificate}
 use Rattle.preflight_cert.specs.CertificateText.{certificate_text}
 use Rattle.preflight_cert.specs.Drawings.{NumberedDrawing, drawings_of}
 use Rattle.preflight_cert.specs.Run.{Rejected}
@@ -77,6 +78,10 @@ PreparesIfOpened (Ok o) file width height bytes = PreparesRecords o (record_byte
 pub record HasBound (width height : ℕ) (c : CertificateValue) : Type 0 where
   pub wide : c.max_width ≡ width
   pub high : c.max_height ≡ height
+
+-- the bytes are a certificate for surfaces of at most this size
+abbrev pub IsForBound : ℕ → ℕ → List ℕ → Type 0
+IsForBound width height bytes = ForOk (read_certificate bytes) (HasBound width height)
 
 -- a surface may have this size
 abbrev pub is_bound : ℕ → ℕ → Bool

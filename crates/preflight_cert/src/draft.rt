@@ -1,8 +1,7 @@
 //! Writing a certificate, entry by entry.
 
-ghost use Rattle.std.specs.Prelude.{◌≡◌, ◌≤◌, ◌<◌, ◌^◌, ◌&&◌, ◌==◌, [], ◌∷◌, ◌++◌, List, IfOk, OnOk, drop, length};
-ghost use Rattle.draw_ops.specs.declared.rules.Rules.{Rules as TheRules};
-ghost use Rattle.preflight_cert.specs.DraftOf.{Adds, Awaits, Holds, IsFinished, Widens, space_for};
+ghost use Rattle.std.specs.Prelude.{◌≡◌, ◌≤◌, ◌<◌, ◌^◌, ◌&&◌, ◌==◌, [], ◌∷◌, ◌++◌, IfOk, OnOk, drop, length};
+ghost use Rattle.preflight_cert.specs.DraftOf.{Adds, AwaitsEntry, Holds, IsFinished, Widens, space_for};
 ghost use Rattle.preflight_cert.specs.Preparation.{version_for};
 ghost use Rattle.preflight_cert.specs.TextParts.{head_value};
 ghost use Rattle.preflight_cert.specs.declared.certificate_entry.Entry.{Entry};
@@ -52,7 +51,7 @@ impl Draft {
 
     /// Makes the draft an `MPC2` if the next entry has a nib other than one pixel.
     fn await_entry(&mut self, entry: Entry) -> Result<(), OutOfMemory>
-        ensures { OnOk result ((rules : TheRules) (entries : List Entry) → Holds rules self.old entries → Awaits rules self.new entries entry) }
+        ensures { OnOk result (AwaitsEntry self.old self.new entry) }
     {
         if is_one_pixel(entry.nib) {
             return Ok(());

@@ -10,8 +10,8 @@ ghost use Rattle.preflight_cert.specs.Answer.{CountsRecords, IsAnswer, IsCleared
 ghost use Rattle.preflight_cert.specs.CertificateOf.{certificate_of};
 ghost use Rattle.preflight_cert.specs.CertificateReading.{read_certificate, rules_in};
 ghost use Rattle.preflight_cert.specs.ClearedFacts.{IsSoundWhereOpened};
-ghost use Rattle.preflight_cert.specs.OpenedRecords.{CountsRecordsOf};
-ghost use Rattle.preflight_cert.specs.Preparation.{HasBound, Prepares, StopsPreparing, is_bound};
+ghost use Rattle.preflight_cert.specs.PreparedFacts.{CountsPrepared};
+ghost use Rattle.preflight_cert.specs.Preparation.{IsForBound, Prepares, StopsPreparing, is_bound};
 ghost use Rattle.preflight_cert.specs.Reached.{OpensAt};
 ghost use Rattle.preflight_cert.specs.Refusal.{IsWantOfMemory, ReportsNumber};
 
@@ -61,9 +61,9 @@ impl<'a> Prepared<'a> {
         ensures accepted { IfOk result (λ prepared. IsAnswer file.now prepared.text.items accepted) }
         ensures opened { IfOk result (λ prepared. IsOpenedFrom file.now prepared.opened) }
         ensures rules { IfOk result (λ prepared. prepared.opened.rules ≡ in_force rules) }
-        ensures sides { IfOk result (λ prepared. ForOk (read_certificate prepared.text.items) (HasBound max_width max_height)) }
+        ensures sides { IfOk result (λ prepared. IsForBound max_width max_height prepared.text.items) }
         ensures written { IfOk result (λ prepared. rules_in prepared.text.items ≡ in_force rules) }
-        ensures counts { IfOk result (λ prepared. CountsRecordsOf prepared.opened prepared.records prepared.notes.counts prepared.uses) }
+        ensures counts { IfOk result CountsPrepared }
         ensures refusal { IfErr result (λ r. StopsPreparing rules file.now max_width max_height r ⊎ IsWantOfMemory r) }
         ensures bound { IfErr result (λ r. is_bound max_width max_height ≡ false → r.fault ≡ BadBound) }
         ensures memory { IfErr result (λ r. r.fault ≡ Fault.OutOfMemory → OpensAt file.now max_width max_height) }

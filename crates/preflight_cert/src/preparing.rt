@@ -1,14 +1,13 @@
 //! Preparing the certificate of a file.
 
 ghost use Rattle.std.specs.Prelude.{◌≡◌, ◌<◌, ◌^◌, ◌⊎◌, IfErr, IfOk, IfSome, false};
-ghost use Rattle.std.specs.Result.{ForOk};
 ghost use Rattle.draw_ops.specs.RuleSets.{core_rules, in_force};
 ghost use Rattle.draw_ops.specs.declared.fault.Fault.TheVariants.{BadBound};
 ghost use Rattle.mapping.specs.Limits.{IsSurfaceSide};
 ghost use Rattle.preflight_cert.specs.Answer.{IsAnswer, accepted};
-ghost use Rattle.preflight_cert.specs.CertificateReading.{read_certificate, rules_in};
+ghost use Rattle.preflight_cert.specs.CertificateReading.{rules_in};
 ghost use Rattle.preflight_cert.specs.OpenedRecords.{AnswersBytesOf, CountsRecordsOf, PreparesRecordsOf, StopsRecordsOf};
-ghost use Rattle.preflight_cert.specs.Preparation.{HasBound, Prepares, StopsPreparing, is_bound};
+ghost use Rattle.preflight_cert.specs.Preparation.{IsForBound, Prepares, StopsPreparing, is_bound};
 ghost use Rattle.preflight_cert.specs.Reached.{OpensAt};
 ghost use Rattle.preflight_cert.specs.Refusal.{IsWantOfMemory, ReportsNumber};
 
@@ -88,7 +87,7 @@ pub(crate) fn prepare_opened(
     ensures text { IfOk result (λ made. PreparesRecordsOf opened.entry max_width max_height made.0.items) }
     ensures accepted { IfOk result (λ made. AnswersBytesOf opened.entry made.0.items accepted) }
     ensures rules { IfOk result (λ made. rules_in made.0.items ≡ in_force opened.entry.rules) }
-    ensures sides { IfOk result (λ made. ForOk (read_certificate made.0.items) (HasBound max_width max_height)) }
+    ensures sides { IfOk result (λ made. IsForBound max_width max_height made.0.items) }
     ensures counts { IfOk result (λ made. CountsRecordsOf opened.entry made.1.records made.1.notes.counts made.1.uses) }
     ensures refusal { IfErr result (λ r. StopsRecordsOf opened.entry max_width max_height r ⊎ IsWantOfMemory r) }
     ensures number_reported { IfErr result ReportsNumber }

@@ -21,17 +21,17 @@ pub fn uses_value(alloc: Global, deletions: u32, emf_plus: u32) -> Result<Value,
 
 /// Adds how often something is used, if it is.
 fn put_if_used(
-    members: &mut Map<String, Value>,
+    map: &mut Map<String, Value>,
     alloc: Global,
     name: &str,
     count: u32,
 ) -> Result<(), AllocError>
-    ensures { OnOk result (members_view members.new.entries ≡ put_used name.now count (members_view members.old.entries)) }
+    ensures { OnOk result (members_view map.new.entries ≡ put_used name.now count (members_view map.old.entries)) }
 {
     if count == 0 {
         return Ok(());
     }
-    put_number(members, alloc, name, u64::from(count))
+    put_number(map, alloc, name, u64::from(count))
 }
 
 /// Under the print profile, adds the profile's name.
