@@ -46,6 +46,14 @@ enum {
     METAPLAY_NO_SUCH_FAULT = 4
 };
 
+/* What the print profile can allow. Each occurs in the report of a certificate only if the file uses it. */
+enum {
+    /* The deletion of an object that is selected: what is selected keeps its values. */
+    METAPLAY_ALLOW_HELD_DELETION = 1,
+    /* An EMF file that contains EMF+ and whose own records draw nothing. */
+    METAPLAY_ALLOW_EMF_PLUS = 2
+};
+
 /* The greatest width and height of a surface, in pixels. The least is 1. */
 #define METAPLAY_MOST_SIDE 8192
 
@@ -92,12 +100,20 @@ metaplay_answer metaplay_check(const uint8_t *file, size_t file_length, const ui
                                size_t certificate_length);
 
 /*
- * Prepares the certificate of a file for surfaces of at most this size, and copies it to the start of `out`. It is
- * accepted by `metaplay_check`. The width and the height must be from 1 to 8,192 (fault 8, BadBound). To learn the
- * length, call it with `out_length` 0; `out` isn't null even then.
+ * Prepares the certificate of a file under the core profile for surfaces of at most this size, and copies it to the
+ * start of `out`. It is accepted by `metaplay_check`. The width and the height must be from 1 to 8,192 (fault 8,
+ * BadBound). To learn the length, call it with `out_length` 0; `out` isn't null even then.
  */
 metaplay_answer metaplay_prepare(const uint8_t *file, size_t file_length, uint32_t width, uint32_t height,
                                  uint8_t *out, size_t out_length);
+
+/*
+ * The same under the print profile, for surfaces that are larger than the file's frame (README.md). `allowed` is the
+ * sum of what is allowed, or 0; any other number is rejected (fault 8, BadBound). The certificate says both, so that
+ * `metaplay_check` and `metaplay_play` go by them.
+ */
+metaplay_answer metaplay_prepare_print(const uint8_t *file, size_t file_length, uint32_t allowed, uint32_t width,
+                                       uint32_t height, uint8_t *out, size_t out_length);
 
 /*
  * Checks a certificate against a file, plays the file on a white surface of this size, and writes the image to the
