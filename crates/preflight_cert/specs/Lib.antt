@@ -40,5 +40,4 @@ pub mod Gathered
 pub mod StoppedRecords
 pub mod OpenedRecords
 pub mod ClearedFacts
-pub mod PreparedFacts
 pub mod ObjectOrder

@@ -10,7 +10,7 @@ ghost use Rattle.preflight_cert.specs.Answer.{CountsRecords, IsAnswer, IsCleared
 ghost use Rattle.preflight_cert.specs.CertificateOf.{certificate_of};
 ghost use Rattle.preflight_cert.specs.CertificateReading.{read_certificate, rules_in};
 ghost use Rattle.preflight_cert.specs.ClearedFacts.{IsSoundWhereOpened};
-ghost use Rattle.preflight_cert.specs.PreparedFacts.{CountsPrepared};
+ghost use Rattle.preflight_cert.specs.OpenedRecords.{CountsRecordsOf};
 ghost use Rattle.preflight_cert.specs.Preparation.{IsForBound, Prepares, StopsPreparing, is_bound};
 ghost use Rattle.preflight_cert.specs.Reached.{OpensAt};
 ghost use Rattle.preflight_cert.specs.Refusal.{IsWantOfMemory, ReportsNumber};
@@ -63,7 +63,7 @@ impl<'a> Prepared<'a> {
         ensures rules { IfOk result (λ prepared. prepared.opened.rules ≡ in_force rules) }
         ensures sides { IfOk result (λ prepared. IsForBound max_width max_height prepared.text.items) }
         ensures written { IfOk result (λ prepared. rules_in prepared.text.items ≡ in_force rules) }
-        ensures counts { IfOk result CountsPrepared }
+        ensures counts { IfOk result (λ p. CountsRecordsOf p.opened p.records p.notes.counts p.uses) }
         ensures refusal { IfErr result (λ r. StopsPreparing rules file.now max_width max_height r ⊎ IsWantOfMemory r) }
         ensures bound { IfErr result (λ r. is_bound max_width max_height ≡ false → r.fault ≡ BadBound) }
         ensures memory { IfErr result (λ r. r.fault ≡ Fault.OutOfMemory → OpensAt file.now max_width max_height) }
