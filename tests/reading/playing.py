@@ -289,10 +289,19 @@ class Steps:
         certifier = self.certifier(sides)
         return certifier, certifier.certify(self.read) or self.refusal or self.alone(certifier)
 
+    def has_emf_plus_alone(self, certifier):
+        """Whether there is EMF+ beside which the records draw nothing. The core profile doesn't look at that."""
+        return self.opened.rules.is_print and "EmfPlus" in self.notes and not certifier.drawings
+
     def alone(self, certifier):
-        """The fault of EMF+ beside which the records draw nothing, where the rules don't allow that, with the last record."""
-        is_alone = "EmfPlus" in self.notes and not certifier.drawings and not self.opened.rules.allows_emf_plus
-        return ("EmfPlusAlone", len(self.read) - 1) if is_alone else None
+        """The fault of that, where the rules don't allow it, with the last record."""
+        is_fault = self.has_emf_plus_alone(certifier) and not self.opened.rules.emf_plus
+        return ("EmfPlusAlone", len(self.read) - 1) if is_fault else None
+
+    def uses(self, certifier):
+        """What records without a fault use of what rules allow, by name, and how often."""
+        counts = {"emf-plus": int(self.has_emf_plus_alone(certifier)), "held-deletion": certifier.held_deletions}
+        return {name: count for name, count in counts.items() if count}
 
     def faults(self, smallest, largest):
         """The records that are refused on a surface of these sides at most, each with its fault, up to the first that each surface refuses."""
@@ -307,8 +316,9 @@ class Steps:
             if fault:
                 found.append((number, fault))
             if is_last:
-                break
-        return found
+                return found
+        alone = None if self.refusal else self.alone(judge)
+        return [*found, alone[::-1]] if alone else found
 
     def image(self, sides, before=None):
         """The image of these records, which have no fault at these sides, over white or over what was there before."""

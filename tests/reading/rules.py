@@ -12,6 +12,20 @@ class Rules(NamedTuple):
     held_deletion: bool = False
     emf_plus: bool = False
 
+    @property
+    def allowed(self):
+        """The number of what is allowed in a certificate of the print profile; a certificate of core has none."""
+        return self.held_deletion + 2 * self.emf_plus if self.is_print else None
+
+    def number(self):
+        """The number by which a request gives these rules."""
+        return 4 + self.allowed if self.is_print else 0
+
+    def words(self):
+        """The options that give these rules to a command."""
+        names = [name for name, given in (("held-deletion", self.held_deletion), ("emf-plus", self.emf_plus)) if given]
+        return ["--profile", "print", *(word for name in names for word in ("--allow", name))] if self.is_print else []
+
     def parts(self, frame):
         """How many parts of the plane a unit of a frame has."""
         return fine_parts(frame) if self.is_print else 1
@@ -20,11 +34,6 @@ class Rules(NamedTuple):
     def allows_held_deletion(self):
         """Whether a selected object may be deleted."""
         return self.is_print and self.held_deletion
-
-    @property
-    def allows_emf_plus(self):
-        """Whether a file that contains EMF+ may draw nothing by its own records."""
-        return not self.is_print or self.emf_plus
 
 
 CORE = Rules()

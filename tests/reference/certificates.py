@@ -113,11 +113,12 @@ class Certificate(NamedTuple):
         """The first bytes that it is prepared with: those of the version without nibs exactly where each nib is one pixel."""
         return b"MPC2" if any(entry.nib != ONE_PIXEL for entry in self.entries) else b"MPC1"
 
-    def text(self, version=None):
-        """Its bytes, of the version that it is prepared with or of another one."""
-        version = version or self.version()
-        head = struct.pack("<4s2IQ5I", version, self.width, self.height, self.writes, *self[3:7], len(self.entries))
-        return head + b"".join(entry.text(version == b"MPC2") for entry in self.entries)
+    def text(self, version=None, allowed=None):
+        """Its bytes, of the version that it is prepared with or of another one; or of the print profile, with the number of what is allowed."""
+        version = version or (self.version() if allowed is None else b"MPC3")
+        mark = version if allowed is None else struct.pack("<4sI", version, allowed)
+        head = struct.pack("<2IQ5I", self.width, self.height, self.writes, *self[3:7], len(self.entries))
+        return mark + head + b"".join(entry.text(version != b"MPC1") for entry in self.entries)
 
 
 def entry_refusal(drawings, entries):

@@ -9,7 +9,7 @@ use meta_headers::FileFormat;
 /// What is known of a file without a certificate.
 #[derive(Drop)]
 pub struct FileInfo {
-    /// The rules under which the file was looked at.
+    /// The rules under which the file was examined.
     pub rules: Rules,
     /// The format by the file's first bytes, if a metafile begins so.
     pub format: Option<FileFormat>,
