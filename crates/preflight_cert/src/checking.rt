@@ -23,16 +23,15 @@ use meta_headers::{Opened, open_file, opening_law};
 use object_tables::FileTable;
 use std::alloc::Global;
 
-/// Checks a certificate against a file, at the size of its bound and under its rules. If it is accepted, each run of
-/// the file on a surface within that bound has no fault and writes at most the certified number of pixels. Otherwise
-/// returns the first fault, in this order:
+/// Checks a certificate against a file, at its bound and under its rules. If it is accepted, a run on any surface within
+/// that bound has no fault and writes no more pixels than certified. Otherwise returns the first of these faults:
 ///
 /// - the file doesn't open, or else the certificate can't be read;
 /// - a record has a fault at the bound, or its drawing no entry (`WrongEntry`), or one whose box lacks a point
 ///   (`BoxTooSmall`) or whose nib is smaller (`NibTooSmall`);
 /// - an EMF file contains EMF+ and draws nothing (`EmfPlusAlone`);
 /// - there is a surplus entry;
-/// - a need is too small, or else the number of writes is.
+/// - a need, or else the number of writes, is too small.
 ///
 /// Memory is allocated only after both were read.
 pub fn check<'a>(
