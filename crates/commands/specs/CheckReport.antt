@@ -24,12 +24,15 @@ needs_data needs =
     object (member (codes "depth") (whole needs.depth) (member (codes "edges") (whole needs.edges)
     (member (codes "pieces") (whole needs.pieces) (member (codes "slots") (whole needs.slots) no_members))))
 
+-- under the print profile two members more: the profile, and what a file uses of what the rules allow
+abbrev pub with_used : Rules → Uses → Members → Members
+with_used rules uses members = with_allowed rules (uses_data uses.held_deletion uses.emf_plus) (with_profile rules members)
+
 -- the report for a certificate that is accepted for a file, with the file's number of records and drawings, its notes,
 -- and what it uses, by name
 abbrev pub accepted_report : OpenedValue → CertificateValue → ℕ → ℕ → List ℕ → Uses → Data
 accepted_report o c records drawings notes uses =
-    object (with_allowed o.rules (uses_data uses.held_deletion uses.emf_plus)
-    (with_profile o.rules
+    object (with_used o.rules uses
     (put (codes "accepted") (boolean true)
     (put (codes "drawings") (whole drawings)
     (put (codes "format") (string (format_name o.format))
@@ -38,7 +41,7 @@ accepted_report o c records drawings notes uses =
     (put (codes "needs") (needs_data c.needs)
     (put (codes "notes") (notes_data notes)
     (put (codes "records") (whole records)
-    (put (codes "writes") (whole c.writes) no_members)))))))))))
+    (put (codes "writes") (whole c.writes) no_members))))))))))
 
 -- the report for a rejection: the code and name of the fault, the kind of record that it refers to, and the number of
 -- the record that it is in

@@ -29,7 +29,7 @@ returns-clause-failed g c =
     c.write_played.ensures.failed
 
 pub returns-clause-memory : goal.returns-clause-memory
-returns-clause-memory g c = IfErr-weaker c.write_played.result _ _ (λ failure fails e. (accepted_opens _ _ c.in-Ok.ensures.accepted).opens) c.write_played.ensures.failed
+returns-clause-memory g c = IfErr-weaker c.write_played.result _ _ (λ failure fails e. (accepted_opens c.args.file.now c.in-Ok.prepared.text.items c.in-Ok.ensures.accepted).opens) c.write_played.ensures.failed
 
 pub returns-in-Err-clause-fault : goal.returns-in-Err-clause-fault
 returns-in-Err-clause-fault g c = λ e. no_output c.in-Err.refusal c.failure_of.result _ c.failure_of.ensures e
