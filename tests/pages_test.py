@@ -10,6 +10,7 @@ PAGES = ["README.md", "docs/PROMISES.md", "docs/LAYERS.md", "docs/DECISIONS.md",
 
 # Words that are neither names of this repository nor files of it.
 OTHERS = {
+    "--allow": "an option of the command line",
     "--allow emf-plus": "an option of the command line",
     "--allow held-deletion": "an option of the command line",
     "--bands ROWS": "an option of the command line",

@@ -1,8 +1,10 @@
 pub mod AppLemmas
 pub mod AskedLemmas
+pub mod ConflictLemmas
 pub mod InfoLemmas
 pub mod KindLemmas
 pub mod OpenLemmas
+pub mod ProfileLemmas
 pub mod RowLemmas
 pub mod RuledLemmas
 pub mod SideLemmas

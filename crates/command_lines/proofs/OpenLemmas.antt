@@ -54,7 +54,7 @@ met_open : (c : List Rule) (waiting : Waiting) (position : ℕ) (word : Text) (h
 met_open c waiting position word h other = rw (no_command waiting word) (rw (not_end word other) (long_open c waiting word (long_of word) h))
 
 -- what is found passes a test that all pass
-found_passes : {X : Type 0} (p q : X → Bool) (xs : List X) (x : X) → find p xs ≡ Some x → list_all q xs ≡ true → q x ≡ true
+pub found_passes : {X : Type 0} (p q : X → Bool) (xs : List X) (x : X) → find p xs ≡ Some x → list_all q xs ≡ true → q x ≡ true
 found_passes p q [] x is all = cc
 found_passes p q (y ∷ ys) x is all = go (p y) refl (q y) refl (found_passes p q ys x)
   where
@@ -62,6 +62,15 @@ found_passes p q (y ∷ ys) x is all = go (p y) refl (q y) refl (found_passes p 
     go here h false g after = let bad : false ≡ true = rw g at all in cc
     go true h true g after = let found : Some y ≡ Some x = rw h at is in let same : y ≡ x = cc in subst (λ (z : _). q z ≡ true) same g
     go false h true g after = after (rw h at is) (rw g at all)
+
+-- and it passes the test that it was found by
+pub found_is : {X : Type 0} (p : X → Bool) (xs : List X) (x : X) → find p xs ≡ Some x → p x ≡ true
+found_is p [] x is = cc
+found_is p (y ∷ ys) x is = go (p y) refl (found_is p ys x)
+  where
+    go : (here : Bool) → p y ≡ here → (find p ys ≡ Some x → p x ≡ true) → p x ≡ true
+    go true h after = let found : Some y ≡ Some x = rw h at is in let same : y ≡ x = cc in subst (λ (z : _). p z ≡ true) same h
+    go false h after = after (rw h at is)
 
 both_false : (a b : Bool) → a ≡ false → not b ≡ true → (a || b) ≡ false
 both_false a true is other = cc

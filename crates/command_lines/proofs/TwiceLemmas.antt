@@ -1,145 +1,113 @@
 -- clap finds a fault with a profile that is given twice.
-use Rattle.std.proofs.Common.{◌≡◌, ◌∙◌, ◌++◌, ap, ap₂, inl, inr, refl, subst, ℕ, Bool, List, [], ◌∷◌, false, true, Option, None, codes, fold}
-use Rattle.std.specs.List.{All, list_all}
-use Rattle.std.specs.Str.{bytes_eq}
-use Rattle.std.proofs.lemmas.List.Sums.{fold-append}
-use Rattle.clap.specs.Faults.{fault_of, repeat_fault, settle_fault}
+use Rattle.std.proofs.Common.{◌≡◌, ◌++◌, ap, refl, subst, sym, ℕ, zero, suc, Bool, List, [], ◌∷◌, false, true, Option, Some, None, drop, encode_utf8, fold, length, slice_get}
+use Rattle.std.specs.Option.{option_map_or}
+use Rattle.std.specs.Str.{bytes_eq, chars}
+use Rattle.clap.specs.Faults.{bundle_fault, bundle_step_fault, flag_word_fault, flags_fault, other_fault, step_fault, turn_fault, walk_fault, word_fault}
 use Rattle.clap.specs.Kinds.{or_else}
-use Rattle.clap.specs.Walk.{Held, Row, Text, Waiting, Walk, has_row, idle, nothing_held, option, positional, settled_rows, walk_from, walked, with_values, without}
-use Rattle.clap.specs.declared.builder.value_parser.Reading.{Reading}
-use Rattle.clap.specs.declared.builder.value_parser.Reading.TheVariants.{AsWritten}
-use Rattle.clap.specs.declared.parser.matches.ValueSource.TheVariants as source
-use Rattle.clap.proofs.OnLiterals.{clap_on_literals}
-use Rattle.command_lines.specs.CommandLine.{IsPlainWord, metaplay_app}
-use Rattle.command_lines.specs.RightWords.{ArgumentKind, exactly, name}
-use Rattle.command_lines.specs.WrongWords.{AreWrongWords, GiveProfileTwice, IsNoEnd, ruled_commands}
-use Rattle.command_lines.proofs.InfoLemmas.{top, top_names, words_stay}
-use Rattle.command_lines.proofs.KindLemmas.{kinds_walked, walked_kinds}
-use Rattle.command_lines.proofs.OpenLemmas.{IsOpen, fold_open, is_open_rule}
-use Rattle.command_lines.proofs.UsageLemmas.{all_of_list, built_shape}
-use Rattle.command_lines.proofs.WrongLemmas.{FaultsAreOwn, beside_certificate, no_first, no_second, own, own_fault}
+use Rattle.clap.specs.Lexer.{long_of, short_of}
+use Rattle.clap.specs.Simple.{Shape}
+use Rattle.clap.specs.Walk.{Held, Outcome, Rule, Step, Text, Waiting, Walk, after_flag, after_step, arg_by_id, arg_by_long, arg_by_short, bundle, bundle_met, bundle_step, idle, long_or_other, next, option, option_word, plain, plain_word, positional, pushed, short_or_plain, started, subcommand, subcommand_or_other, trailing, value, walked, walked_from, word_met}
+use Rattle.command_lines.proofs.KindLemmas.{no_command}
+use Rattle.command_lines.proofs.WrongLemmas.{no_first, no_second}
+use Rattle.command_lines.proofs.ConflictLemmas.{HasProfile, IsTwice, long_twice, short_twice, value_twice}
 
--- an argument that got a value has a row
-has_values : (id : Text) (how : Reading) (values : List Text) (rows : List Row) → bytes_eq id id ≡ true → has_row id (with_values id how source.CommandLine values rows) ≡ true
-has_values id how values [] same = rw same refl
-has_values id how values (row ∷ rows) same = go (bytes_eq row.id id) refl (has_values id how values rows same)
-  where
-    go : (is : Bool) → bytes_eq row.id id ≡ is → has_row id (with_values id how source.CommandLine values rows) ≡ true → has_row id (with_values id how source.CommandLine values (row ∷ rows)) ≡ true
-    go true is after = rw is (rw is refl)
-    go false is after = rw is (rw is after)
+module _ (s : Shape) (has : HasProfile s) where
+  -- after this step the profile is still being read once more
+  abbrev StaysTwice : Held → Step → Type 0
+  StaysTwice h (next waiting) = IsTwice h
+  StaysTwice h (trailing position) = IsTwice h
+  StaysTwice h (subcommand name) = ⊥
+  StaysTwice h value = ⊥
 
--- one more use of it is a fault
-repeated : (how : Reading) (first : Text) (rows : List Row)
-    → or_else (repeat_fault false (codes "PROFILE") (with_values (codes "PROFILE") how source.CommandLine (first ∷ []) (without (codes "PROFILE") rows))) [] ≡ [] → ⊥
-repeated how first rows none =
-    let is : has_row (codes "PROFILE") (with_values (codes "PROFILE") how source.CommandLine (first ∷ []) (without (codes "PROFILE") rows)) ≡ true = has_values (codes "PROFILE") how (first ∷ []) (without (codes "PROFILE") rows) refl in
-    let bad = rw is at none in
-    cc
+  pub pushed_twice : (id word : Text) (h : Held) → IsTwice h → IsTwice (pushed id word h)
+  pushed_twice id word h twice = record {
+    row = twice.row;
+    values = twice.values ++ word ∷ [];
+    pending = ap (λ (p : Option (Text × List Text)). Some ((started id p).0, (started id p).1 ++ word ∷ [])) twice.pending;
+  }
 
--- the profile, twice
-abbrev twice_words : Text → Text → List Text
-twice_words first second = codes "--profile" ∷ first ∷ codes "--profile" ∷ second ∷ []
+  option_word_twice : (rule : Option Rule) (id word : Text) (h : Held) → IsTwice h → IsTwice (option_word rule id word h).0
+  option_word_twice None id word h twice = twice
+  option_word_twice (Some rule) id word h twice = pushed_twice id word h twice
 
-abbrev twice_kinds : List ArgumentKind
-twice_kinds = exactly (codes "--profile") ∷ name ∷ exactly (codes "--profile") ∷ name ∷ []
+  plain_twice : (waiting : Waiting) (position : ℕ) (word : Text) (h : Held) → IsTwice h
+      → step_fault s position (plain_word s.rules waiting word h).0 (plain_word s.rules waiting word h).1 ≡ [] → StaysTwice (plain_word s.rules waiting word h).0 (plain_word s.rules waiting word h).1
+  plain_twice idle position word h twice none = absurd (value_twice s has position h twice none)
+  plain_twice (option id) position word h twice none = option_word_twice (arg_by_id s.rules id) id word h twice
+  plain_twice positional position word h twice none = absurd (value_twice s has position h twice none)
 
--- where the walk stands if options may follow
-abbrev open_walk : Held → Waiting → ℕ → Walk
-open_walk held waiting position = record { held = held; waiting = waiting; position = position; is_trailing = false; stopped = None }
+  bundle_twice : (k : ℕ) (flags : Text) (skip : ℕ) (so_far : Outcome) (h : Held) → IsTwice h → flags_fault s.rules s.args_override_self k flags skip h ≡ []
+      → bundle_met s.rules k flags skip so_far h ≡ (h, so_far)
+  unfolding bundle_met flags_fault
+  bundle_twice zero flags skip so_far h twice none = refl
+  bundle_twice (suc k) flags skip so_far h twice none =
+      go (slice_get (chars flags) 0) skip none (λ rest left faultless. bundle_twice k rest left so_far h twice faultless)
+    where
+      go : (first : Option ℕ) (skip : ℕ) → bundle_step_fault s.rules s.args_override_self first flags skip h (flags_fault s.rules s.args_override_self k) ≡ []
+          → ((rest : Text) (left : ℕ) → flags_fault s.rules s.args_override_self k rest left h ≡ [] → bundle_met s.rules k rest left so_far h ≡ (h, so_far))
+          → bundle_step s.rules first flags skip so_far h (bundle_met s.rules k) ≡ (h, so_far)
+      go None skip none stays = refl
+      go (Some x) zero none stays = absurd (short_twice s has (arg_by_short s.rules x) _ h _ twice none)
+      go (Some x) (suc skip) none stays = stays (drop (length (encode_utf8 x)) flags) skip none
 
-is_open_walk : (w : Walk) → IsOpen w → w ≡ open_walk w.held w.waiting w.position
-is_open_walk w stands = ap₂ (λ (t : Bool) (s : Option (Text × List Text)). record w { is_trailing = t; stopped = s }) stands.0 stands.1
+  skip_twice : (h : Held) → IsTwice h → IsTwice (record h { skip = 0 })
+  skip_twice h twice = record { row = twice.row; values = twice.values; pending = twice.pending }
 
--- the faults of the last argument after a profile, twice, from some state
-abbrev FailsFrom : Text → Held → Waiting → ℕ → Type 0
-FailsFrom command h waiting position = (first second : Text)
-    → settle_fault (built_shape command).rules (built_shape command).args_override_self
-    (kinds_walked (built_shape command).rules twice_kinds (open_walk h waiting position) (twice_words first second)).held ≡ [] → ⊥
+  flags_twice : (waiting : Waiting) (position : ℕ) (word : Text) (flags : Option Text) (h : Held) → IsTwice h
+      → option_map_or (λ (f : Text). bundle_fault s.rules s.args_override_self f h) flags [] ≡ []
+      → step_fault s position (short_or_plain s.rules waiting word flags h).0 (short_or_plain s.rules waiting word flags h).1 ≡ []
+      → StaysTwice (short_or_plain s.rules waiting word flags h).0 (short_or_plain s.rules waiting word flags h).1
+  flags_twice waiting position word None h twice none stepless = plain_twice waiting position word h twice stepless
+  flags_twice waiting position word (Some flags) h twice none stepless =
+      let other = record h { skip = 0 } in
+      let met : bundle s.rules flags h ≡ (other, plain) = bundle_twice (length flags) flags h.skip plain other (skip_twice h twice) none in
+      subst (λ (m : Held × Outcome). step_fault s position (after_flag s.rules waiting word m.0 m.1).0 (after_flag s.rules waiting word m.0 m.1).1 ≡ []
+      → StaysTwice (after_flag s.rules waiting word m.0 m.1).0 (after_flag s.rules waiting word m.0 m.1).1) (sym met) (plain_twice waiting position word other (skip_twice h twice)) stepless
 
-abbrev FailsTwice : Text → Type 0
-FailsTwice command = (h : Held) (waiting : Waiting) (position : ℕ) → FailsFrom command h waiting position
+  long_or_twice : (waiting : Waiting) (position : ℕ) (word : Text) (long : Option (Text × Option Text)) (h : Held) → IsTwice h
+      → flag_word_fault s.rules s.args_override_self long word h ≡ []
+      → step_fault s position (long_or_other s.rules waiting word long h).0 (long_or_other s.rules waiting word long h).1 ≡ []
+      → StaysTwice (long_or_other s.rules waiting word long h).0 (long_or_other s.rules waiting word long h).1
+  long_or_twice waiting position word (Some p) h twice none stepless = absurd (long_twice s has (arg_by_long s.rules p.0) p.1 h twice none)
+  long_or_twice waiting position word None h twice none stepless = flags_twice waiting position word (short_of word) h twice none stepless
 
-show_own : FaultsAreOwn (codes "show")
-unfolding clap_on_literals
-show_own program words = own (codes "show") words (words_stay top.rules top_names (walk_from nothing_held) (codes "show") words []) refl program
+  other_twice : (waiting : Waiting) (position : ℕ) (word : Text) (h : Held) → IsTwice h → other_fault s None word h ≡ []
+      → step_fault s position (subcommand_or_other s.rules None waiting position word h).0 (subcommand_or_other s.rules None waiting position word h).1 ≡ []
+      → StaysTwice (subcommand_or_other s.rules None waiting position word h).0 (subcommand_or_other s.rules None waiting position word h).1
+  other_twice waiting position word h twice none stepless = go (bytes_eq word (45 ∷ 45 ∷ [])) refl
+    where
+      go : (end : Bool) → bytes_eq word (45 ∷ 45 ∷ []) ≡ end
+          → StaysTwice (subcommand_or_other s.rules None waiting position word h).0 (subcommand_or_other s.rules None waiting position word h).1
+      go true is = rw is twice
+      go false is = rw is (long_or_twice waiting position word (long_of word) h twice (rw is at none) (rw is at stepless))
 
-show_twice : FailsTwice (codes "show")
-unfolding clap_on_literals
-show_twice h idle position first second none = repeated AsWritten first (settled_rows (built_shape (codes "show")).rules h.pending h.rows) none
-show_twice h (option id) position first second none = repeated AsWritten first (settled_rows (built_shape (codes "show")).rules h.pending h.rows) none
-show_twice h positional position first second none = repeated AsWritten first (settled_rows (built_shape (codes "show")).rules h.pending h.rows) none
+  met_twice : (is_trailing : Bool) (waiting : Waiting) (position : ℕ) (word : Text) (h : Held) → IsTwice h → word_fault s [] is_trailing waiting word h ≡ []
+      → step_fault s position (word_met s.rules [] is_trailing waiting position word h).0 (word_met s.rules [] is_trailing waiting position word h).1 ≡ []
+      → StaysTwice (word_met s.rules [] is_trailing waiting position word h).0 (word_met s.rules [] is_trailing waiting position word h).1
+  met_twice true waiting position word h twice none stepless = absurd (value_twice s has position h twice stepless)
+  met_twice false waiting position word h twice none stepless =
+      rw (no_command waiting word) (other_twice waiting position word h twice (rw (no_command waiting word) at none) (rw (no_command waiting word) at stepless))
 
-prepare_own : FaultsAreOwn (codes "prepare")
-unfolding clap_on_literals
-prepare_own program words = own (codes "prepare") words (words_stay top.rules top_names (walk_from nothing_held) (codes "prepare") words []) refl program
+  -- the walk goes on, and the profile is still being read once more
+  abbrev pub GoesTwice : Walk → Type 0
+  GoesTwice w = IsTwice w.held × (w.stopped ≡ None)
 
-prepare_twice : FailsTwice (codes "prepare")
-unfolding clap_on_literals
-prepare_twice h idle position first second none = repeated AsWritten first (settled_rows (built_shape (codes "prepare")).rules h.pending h.rows) none
-prepare_twice h (option id) position first second none = repeated AsWritten first (settled_rows (built_shape (codes "prepare")).rules h.pending h.rows) none
-prepare_twice h positional position first second none = repeated AsWritten first (settled_rows (built_shape (codes "prepare")).rules h.pending h.rows) none
+  step_twice : (word : Text) (w : Walk) (h : Held) (step : Step) → w.stopped ≡ None → StaysTwice h step → GoesTwice (after_step s.rules word w h step)
+  step_twice word w h (next waiting) goes stays = (stays, goes)
+  step_twice word w h (trailing position) goes stays = (stays, goes)
+  step_twice word w h (subcommand name) goes stays = absurd stays
+  step_twice word w h value goes stays = absurd stays
 
-list_own : FaultsAreOwn (codes "list")
-unfolding clap_on_literals
-list_own program words = own (codes "list") words (words_stay top.rules top_names (walk_from nothing_held) (codes "list") words []) refl program
+  walked_twice : (w : Walk) (word : Text) → GoesTwice w → turn_fault s [] w word ≡ [] → GoesTwice (walked s.rules [] w word)
+  unfolding walked
+  walked_twice w word goes none =
+      let met = word_met s.rules [] w.is_trailing w.waiting w.position word w.held in
+      let both : or_else (word_fault s [] w.is_trailing w.waiting word w.held) (step_fault s w.position met.0 met.1) ≡ [] = rw goes.1 at none in
+      subst (λ (stop : Option (Text × List Text)). GoesTwice (walked_from s.rules [] stop w word)) (sym goes.1)
+      (step_twice word w met.0 met.1 goes.1 (met_twice w.is_trailing w.waiting w.position word w.held goes.0 (no_first _ _ both) (no_second _ _ both)))
 
-list_twice : FailsTwice (codes "list")
-unfolding clap_on_literals
-list_twice h idle position first second none = repeated AsWritten first (settled_rows (built_shape (codes "list")).rules h.pending h.rows) none
-list_twice h (option id) position first second none = repeated AsWritten first (settled_rows (built_shape (codes "list")).rules h.pending h.rows) none
-list_twice h positional position first second none = repeated AsWritten first (settled_rows (built_shape (codes "list")).rules h.pending h.rows) none
-
-info_own : FaultsAreOwn (codes "info")
-unfolding clap_on_literals
-info_own program words = own (codes "info") words (words_stay top.rules top_names (walk_from nothing_held) (codes "info") words []) refl program
-
-info_twice : FailsTwice (codes "info")
-unfolding clap_on_literals
-info_twice h idle position first second none = repeated AsWritten first (settled_rows (built_shape (codes "info")).rules h.pending h.rows) none
-info_twice h (option id) position first second none = repeated AsWritten first (settled_rows (built_shape (codes "info")).rules h.pending h.rows) none
-info_twice h positional position first second none = repeated AsWritten first (settled_rows (built_shape (codes "info")).rules h.pending h.rows) none
-
--- a profile that is given twice at the end is a fault of the command
-record HasOneProfile (command : Text) : Type 0 where
-  pub faults : FaultsAreOwn command
-  pub takes_one : list_all is_open_rule (built_shape command).rules ≡ true
-  pub fails : FailsTwice command
-
-ruled_have : All HasOneProfile ruled_commands
-ruled_have = all_of_list HasOneProfile ruled_commands (
-  record { faults = show_own; takes_one = refl; fails = show_twice },
-  (
-    record { faults = prepare_own; takes_one = refl; fails = prepare_twice },
-    (
-      record { faults = list_own; takes_one = refl; fails = list_twice },
-      (record { faults = info_own; takes_one = refl; fails = info_twice }, tt),
-    ),
-  ),
-)
-
-failing : (command : Text) (before : List Text) (first second : Text) → HasOneProfile command → All IsNoEnd before → IsPlainWord first → IsPlainWord second
-    → own_fault command (before ++ twice_words first second) ≡ [] → ⊥
-failing command before first second has others plain_first plain_second faultless =
-    let c = (built_shape command).rules in
-    let again = (built_shape command).args_override_self in
-    let start = fold (walked c []) (walk_from nothing_held) before in
-    let stands : IsOpen start = fold_open c (walk_from nothing_held) before has.takes_one (refl, refl) others in
-    let ends : fold (walked c []) (walk_from nothing_held) (before ++ twice_words first second) ≡ kinds_walked c twice_kinds (open_walk start.held start.waiting start.position) (twice_words first second) =
-    fold-append (walked c []) (walk_from nothing_held) before (twice_words first second)
-    ∙ (ap (λ (w : Walk). fold (walked c []) w (twice_words first second)) (is_open_walk start stands)
-    ∙ walked_kinds c twice_kinds (open_walk start.held start.waiting start.position) (twice_words first second) (refl, (plain_first, (refl, (plain_second, tt))))) in
-    let settles : settle_fault c again (fold (walked c []) (walk_from nothing_held) (before ++ twice_words first second)).held ≡ [] = no_first _ _ (no_second _ _ faultless) in
-    has.fails start.held start.waiting start.position first second (subst (λ (w : Walk). settle_fault c again w.held ≡ []) ends settles)
-
-pub profile_twice : (words : List Text) → GiveProfileTwice words → fault_of metaplay_app words ≡ [] → ⊥
-profile_twice words wrong faultless =
-    let found = wrong.ruled in
-    let has : HasOneProfile wrong.command = subst HasOneProfile found.4 (subst HasOneProfile found.3 (ruled_have found.0 found.1 found.2)) in
-    let here : fault_of metaplay_app (wrong.program ∷ wrong.command ∷ (wrong.before ++ twice_words wrong.first wrong.second)) ≡ [] =
-    subst (λ (l : List Text). fault_of metaplay_app l ≡ []) wrong.are faultless in
-    failing wrong.command wrong.before wrong.first wrong.second has wrong.no_end wrong.plain.0 wrong.plain.1 (has.faults wrong.program _ here)
-
--- words without a fault aren't wrong
-pub none_wrong : (words : List Text) → fault_of metaplay_app words ≡ [] → AreWrongWords words → ⊥
-none_wrong words faultless (inl wrong) = beside_certificate words wrong faultless
-none_wrong words faultless (inr wrong) = profile_twice words wrong faultless
+  pub fold_twice : (w : Walk) (words : List Text) → GoesTwice w → walk_fault s [] w words ≡ [] → GoesTwice (fold (walked s.rules []) w words)
+  unfolding walk_fault
+  fold_twice w [] goes none = goes
+  fold_twice w (word ∷ words) goes none =
+      fold_twice (walked s.rules [] w word) words (walked_twice w word goes (no_first _ _ none)) (no_second _ _ none)

@@ -26,7 +26,7 @@ no_second [] b none = none
 no_second (k ∷ ks) b none = cc
 
 -- an option isn't the word `--`
-option_no_end : (name word : Text) → IsOption name word → IsNoEnd word
+pub option_no_end : (name word : Text) → IsOption name word → IsNoEnd word
 option_no_end name word is end =
     let bad : IsOption name (codes "--") = subst (IsOption name) end is in cc
 

@@ -6,4 +6,5 @@ pub mod InfoWords
 pub mod RightWords
 pub mod RuleWords
 pub mod VersionWords
+pub mod WrongRules
 pub mod WrongWords

@@ -3,7 +3,6 @@ use Rattle.std.specs.Prelude.{◌≡◌, ◌⊎◌, ◌++◌, List, [], ◌∷�
 use Rattle.std.specs.List.{All, Any}
 use Rattle.clap.specs.Lexer.{long_of}
 use Rattle.clap.specs.Words.{Text}
-use Rattle.command_lines.specs.CommandLine.{IsPlainWord}
 
 -- the word isn't `--`, after which no word is an option
 abbrev pub IsNoEnd : Text → Type 0
@@ -37,17 +36,19 @@ pub record GiveRulesBesideCertificate (words : List Text) : Type 0 where
   pub no_end : All IsNoEnd before
   pub is_option : IsRuleOption option
 
--- the program's name, a command that is given its rules, and at the end a profile and one more profile
+-- the program's name, a command that is given its rules, and two profiles among its words
 pub record GiveProfileTwice (words : List Text) : Type 0 where
   pub program : Text
   pub command : Text
   pub before : List Text
   pub first : Text
+  pub between : List Text
   pub second : Text
-  pub are : words ≡ program ∷ command ∷ (before ++ codes "--profile" ∷ first ∷ codes "--profile" ∷ second ∷ [])
+  pub after : List Text
+  pub are : words ≡ program ∷ command ∷ (before ++ first ∷ (between ++ second ∷ after))
   pub ruled : Any (λ name. name ≡ command) ruled_commands
-  pub no_end : All IsNoEnd before
-  pub plain : IsPlainWord first × IsPlainWord second
+  pub no_end : All IsNoEnd before × All IsNoEnd between
+  pub are_profiles : IsOption (codes "profile") first × IsOption (codes "profile") second
 
 -- words that give rules to a command by a certificate, or the profile twice
 abbrev pub AreWrongWords : List Text → Type 0

@@ -24,8 +24,7 @@ certified number of pixels.";
 /// The text below the options in the help.
 const GUIDE: &str = "Examples:
   metaplay show drawing.wmf 400 300 --fit > drawing.ppm
-  metaplay show drawing.wmf 4000 3000 --profile print > large.ppm
-  metaplay prepare drawing.wmf 4096 4096 drawing.cert
+  metaplay prepare drawing.wmf 4096 4096 drawing.cert --profile print
   metaplay check drawing.wmf drawing.cert
   metaplay play drawing.wmf drawing.cert 400 300 > drawing.ppm
   metaplay over drawing.wmf drawing.cert page.ppm > printed.ppm

@@ -1,10 +1,11 @@
 //! The rules that a command line asks for.
 
-ghost use Rattle.std.specs.Prelude.{◌≡◌, IfOk, IsOk, codes, option_map, true};
+ghost use Rattle.std.specs.Prelude.{◌≡◌, IfErr, IfOk, IsOk, codes, option_map, true};
 ghost use Rattle.std.specs.List.{list_all};
 ghost use Rattle.clap.specs.Words.{all_of, first_of, found_of, rows_of};
 ghost use Rattle.command_lines.specs.InfoWords.{names_in};
 ghost use Rattle.command_lines.specs.RuleWords.{AreRightRules, GivesRules, allowances_asked, asks_print, has_allow, has_allowances, has_profile, is_allowance, is_allowed, is_among, rules_asked};
+ghost use Rattle.command_lines.specs.WrongRules.{AreWrongBy};
 
 use clap::ArgMatches;
 use draw_ops::{Allowances, Profile, Rules};
@@ -45,6 +46,7 @@ impl WrongRules {
 pub(crate) fn rules_of(given: &ArgMatches<'_>) -> Result<Rules, WrongRules>
     ensures given { IfOk result (GivesRules (rows_of (found_of given.now))) }
     ensures taken { AreRightRules (rows_of (found_of given.now)) → IsOk result }
+    ensures wrong { IfErr result (AreWrongBy (rows_of (found_of given.now))) }
 {
     if !has_profile(given) {
         return Err(WrongRules::Profile);

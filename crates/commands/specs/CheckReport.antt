@@ -1,10 +1,11 @@
 -- The report of a check, as JSON.
 use Rattle.std.specs.Prelude.{◌≡◌, ℕ, List, length, Option, Ok, codes, true, false}
-use Rattle.serde_json.specs.Data.{Data, boolean, member, no_members, object, put, string}
+use Rattle.serde_json.specs.Data.{Data, Members, boolean, member, no_members, object, put, string}
 use Rattle.draw_ops.specs.Content.{Content}
 use Rattle.draw_ops.specs.Fault.{record_kind_of}
 use Rattle.draw_ops.specs.FaultTable.{fault_row}
 use Rattle.draw_ops.specs.declared.fault.Fault.{Fault}
+use Rattle.draw_ops.specs.declared.rules.Rules.{Rules}
 use Rattle.dc_stack.specs.State.{start_of}
 use Rattle.dc_stack.specs.declared.needs.Needs.{Needs}
 use Rattle.meta_headers.specs.File.{IsFile}

@@ -1,5 +1,6 @@
 //! The functions that C calls.
 
+ghost use Rattle.std.specs.Prelude.{◌≡◌};
 ghost use Rattle.draw_ops.specs.RuleSets.{core_rules};
 ghost use Rattle.buffer_calls.specs.CertifiedTerms.{terms_result};
 ghost use Rattle.buffer_calls.specs.Checks.{EndsCheck};

@@ -9,7 +9,7 @@ use Rattle.command_lines.specs.CommandLine.{metaplay_app, texts_of}
 use Rattle.command_lines.specs.InfoWords.{AreCommandWords}
 use Rattle.command_lines.specs.declared.asked.Asked.{Asked}
 use Rattle.command_lines.proofs.InfoLemmas.{command_words_found, command_words_taken, few_texts}
-use Rattle.command_lines.proofs.TwiceLemmas.{none_wrong}
+use Rattle.command_lines.proofs.ProfileLemmas.{none_wrong}
 use Rattle.command_lines.proofs.WordLemmas.{asked_for, plain_words}
 use Rattle.command_lines.proofs.command_line.line.Goals as goal
 
