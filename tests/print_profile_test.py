@@ -12,7 +12,7 @@ from built import Answer, answer, for_each_program
 from command_inputs import TRIANGLE, TRIANGLE_CERT, changed
 from metafile.fields import BLACK, RED, i32, u32
 from metafile.files import EMF_END, emf_file, emf_record
-from metafile.scripts import EMF, WMF
+from metafile.scripts import EMF, FORMS, WMF
 
 PRINT = ["--profile", "print"]
 DELETION = [*PRINT, "--allow", "held-deletion"]
@@ -24,6 +24,13 @@ STOCK = "select_at 0x80000008; select_at 0x80000004"
 
 # A comment ([MS-EMF] 2.3.3.1) of 20 bytes with EMF+ records.
 PLUS_COMMENT = emf_record(70, u32(8) + b"EMF+" + u32(0))
+
+
+# Scripts that delete a selected pen in the record with this number, where the first has number 0; and then make another at its index.
+HELD = [
+    ("solid_pen 0 0; select 0; delete 0; solid_pen 0 255; move 0 1; line 4 1; delete 0", 2),
+    ("solid_pen 0 0; select 0; save 0; delete 0; solid_pen 0 255; select 0; restore -1; delete 0; move 0 1; line 4 1", 3),
+]
 
 
 def prepared(program, given, sides, words=PRINT):
@@ -182,33 +189,32 @@ class Certificates(unittest.TestCase):
 class HeldDeletion(unittest.TestCase):
     """A selected object may be deleted if that is allowed: what is selected keeps its values."""
 
-    FIRST = EMF.file(EMF.records("solid_pen 0 0; select 0; delete 0; solid_pen 0 255; move 0 1; line 4 1; delete 0"), 4, 2)
-    SECOND = EMF.file(
-        EMF.records("solid_pen 0 0; select 0; save 0; delete 0; solid_pen 0 255; select 0; restore -1; delete 0; move 0 1; line 4 1"), 4, 2
-    )
+    # Both scripts as files of each format, with the number of the record that deletes what is selected, and the slots of objects that each needs.
+    FILES = [(form.file(form.records(script), 4, 2), form.first + place, 1 + form.first) for script, place in HELD for form in FORMS]
+    FILE = FILES[0][0]
     IMAGE = shown({(x, 1): BLACK for x in range(4)})
 
     @for_each_program
     def test_it_is_rejected_unless_it_is_allowed(self, program):
-        for given, record in ((self.FIRST, 3), (self.SECOND, 4)):
+        for given, record, _ in self.FILES:
             for words in ([], PRINT, EMF_PLUS):
                 self.assertEqual(played(program, given, (4, 4), words), refused("HeldObject", record))
 
     @for_each_program
     def test_what_is_selected_keeps_its_values(self, program):
-        for given in (self.FIRST, self.SECOND):
+        for given, _, slots in self.FILES:
             self.assertEqual(played(program, given, (4, 4), DELETION), self.IMAGE)
             certificate = prepared(program, given, (4, 4), DELETION)
             report = checked(program, given, certificate)
-            self.assertEqual((report["allowed"], report["writes"], report["needs"]["slots"]), ({"held-deletion": 1}, 4, 1))
+            self.assertEqual((report["allowed"], report["writes"], report["needs"]["slots"]), ({"held-deletion": 1}, 4, slots))
 
     @for_each_program
     def test_a_certificate_that_does_not_allow_it_is_rejected(self, program):
-        certificate = prepared(program, self.FIRST, (4, 4), BOTH)
+        certificate = prepared(program, self.FILE, (4, 4), BOTH)
         self.assertEqual(certificate[:8], b"MPC3" + u32(3))
         for allowed in (0, 2):
-            report = checked(program, self.FIRST, changed(certificate, 4, u32(allowed)))
-            self.assertEqual((report["fault"], report["record"]), ("HeldObject", 3))
+            report = checked(program, self.FILE, changed(certificate, 4, u32(allowed)))
+            self.assertEqual((report["fault"], report["record"]), ("HeldObject", 2))
 
     @for_each_program
     def test_brushes_fonts_and_palettes_too(self, program):
@@ -290,14 +296,14 @@ class Options(unittest.TestCase):
     @for_each_program
     def test_info_is_by_the_rules(self, program):
         for given, words, told in (
-            (HeldDeletion.FIRST, DELETION, {"allowed": {"held-deletion": 1}, "plays": True, "profile": "print"}),
-            (HeldDeletion.FIRST, PRINT, {"allowed": None, "fault": "HeldObject", "plays": False, "profile": "print"}),
+            (HeldDeletion.FILE, DELETION, {"allowed": {"held-deletion": 1}, "plays": True, "profile": "print"}),
+            (HeldDeletion.FILE, PRINT, {"allowed": None, "fault": "HeldObject", "plays": False, "profile": "print"}),
             (EmfPlusAlone.ALONE, PRINT, {"allowed": None, "fault": "EmfPlusAlone", "plays": False, "record": 2}),
             (EmfPlusAlone.ALONE, EMF_PLUS, {"allowed": {"emf-plus": 1}, "plays": True}),
         ):
             line = json.loads(answer(program, ["info", "stdin", *words], given).out)
             self.assertEqual({name: line[name] for name in told}, told)
-        line = json.loads(answer(program, ["info", "stdin"], HeldDeletion.FIRST).out)
+        line = json.loads(answer(program, ["info", "stdin"], HeldDeletion.FILE).out)
         self.assertFalse({"allowed", "profile"} & line.keys())
 
 
