@@ -95,3 +95,7 @@ mul_order_back c a b h k =
     let e = mul_order c (b +ℤ pos 1) a (omega (arith, ints, h)) next in
     absurd (omega (arith, ints, e, mul_add c b (pos 1), mul_one c, k)))
     (λ (g : a ≤ℤ b). g)
+
+-- the distance was multiplied by the extent first
+pub exchanged : (d v p : ℤ) → (d *ℤ v) *ℤ p ≡ (d *ℤ p) *ℤ v
+exchanged d v p = mul_assoc_ℤ d v p ∙ ap (λ n. d *ℤ n) (mul_comm_ℤ v p) ∙ sym (mul_assoc_ℤ d p v)

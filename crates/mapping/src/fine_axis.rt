@@ -10,7 +10,8 @@ use crate::page_axis::{
     PageAxis, distance, on_plane, product, wide_distance, wide_on_plane, wide_product,
 };
 
-/// Scaled distances of this many units or more lie off the plane, whatever the number of parts.
+/// Numbers below this can be multiplied by any number of parts in 64 bits. Scaled distances of this many units or more lie
+/// off the plane, whatever the number of parts.
 const FAR: u64 = 1 << 45;
 
 /// One axis of a page map, and how many parts a unit has.
@@ -40,8 +41,20 @@ impl FineAxis {
         }
     }
 
-    /// The same for a coordinate of 32 bits.
+    /// The same for a coordinate of 32 bits. Mostly one division is enough.
     fn near_plane(&self, coordinate: i32) -> Option<i32>
+        ensures value { let v = fine_coordinate self.now coordinate in SomeIff result (IsPlaneCoordinate v) v }
+        ensures test { is_some result ≡ is_within plane_limit (fine_coordinate self.now coordinate) }
+    {
+        let product = self.product(coordinate);
+        if product.unsigned_abs() >= FAR {
+            return self.far_plane(coordinate);
+        }
+        on_plane(self.short_in_parts(coordinate, product), self.shift())
+    }
+
+    /// The same if the product of distance and extent may be too large to be multiplied by the number of parts.
+    fn far_plane(&self, coordinate: i32) -> Option<i32>
         ensures value { let v = fine_coordinate self.now coordinate in SomeIff result (IsPlaneCoordinate v) v }
         ensures test { is_some result ≡ is_within plane_limit (fine_coordinate self.now coordinate) }
     {
@@ -50,6 +63,25 @@ impl FineAxis {
             return self.wide_plane(i64::from(coordinate));
         }
         on_plane(self.in_parts(coordinate, whole), self.shift())
+    }
+
+    /// The distance of a coordinate from the window's origin, times the viewport's extent.
+    fn product(&self, coordinate: i32) -> i64
+        ensures value { result ≡ (coordinate -ℤ self.now.axis.window_origin) *ℤ self.now.axis.viewport_extent }
+        ensures bound { unsigned_abs result + 2 ^ 31 ≤ 2 ^ 63 }
+    {
+        let distance = distance(coordinate, self.axis.window_origin);
+        product(distance, i64::from(self.axis.viewport_extent))
+    }
+
+    /// The scaled distance of a coordinate in parts, rounded down, from this product, if it is short.
+    fn short_in_parts(&self, coordinate: i32, product: i64) -> i64
+        requires product { product ≡ (coordinate -ℤ self.now.axis.window_origin) *ℤ self.now.axis.viewport_extent }
+        requires short { unsigned_abs product < 2 ^ 45 }
+        ensures { result ≡ fine_distance self.now coordinate }
+    {
+        let parts = times(product, i64::from(self.parts));
+        floor_quotient(parts, i64::from(self.axis.window_extent))
     }
 
     /// The plane coordinate of a page coordinate that doesn't leave the plane.

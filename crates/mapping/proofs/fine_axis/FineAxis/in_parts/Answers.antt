@@ -4,12 +4,8 @@ use Rattle.std.specs.Prelude.{FitsSigned}
 use Rattle.std.specs.Int.{w32, w64}
 use Rattle.std.proofs.lemmas.Int.{to_z-of_z}
 use Rattle.mapping.specs.Floor.{floor_div}
-use Rattle.mapping.proofs.Products.{mul_assoc_ℤ, mul_comm_ℤ}
+use Rattle.mapping.proofs.Products.{exchanged}
 use Rattle.mapping.proofs.fine_axis.FineAxis.in_parts.Goals as goal
-
--- the distance was multiplied by the extent first
-exchanged : (d v p : ℤ) → (d *ℤ v) *ℤ p ≡ (d *ℤ p) *ℤ v
-exchanged d v p = mul_assoc_ℤ d v p ∙ ap (λ n. d *ℤ n) (mul_comm_ℤ v p) ∙ sym (mul_assoc_ℤ d p v)
 
 product_is : (away viewport distance extent product : ℤ) → distance ≡ away → extent ≡ viewport → product ≡ distance *ℤ extent → product ≡ away *ℤ viewport
 product_is away viewport distance extent product d e p = p ∙ ap (λ n. n *ℤ extent) d ∙ ap (λ n. away *ℤ n) e
