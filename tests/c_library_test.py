@@ -188,12 +188,15 @@ class Calls(unittest.TestCase):
             for allowed, words in enumerate(([], deletion, emf_plus, deletion + emf_plus)):
                 made = certificate_of(given, *SIDES, "--profile", "print", *words)
                 with self.subTest(name=name, allowed=allowed):
-                    told, buffer = prepare_print(given, allowed, SIDES, 4096)
                     if name == HELD_OBJECT and allowed in (0, 2):
                         self.assertEqual(made, Answer(1, b"", b"metaplay: HeldObject at record 5\n"))
+                        told, buffer = prepare_print(given, allowed, SIDES, 4096)
                         self.assertEqual((told, buffer.written(0)), (rejected(CODES["HeldObject"], 5), b""))
                         continue
+                    told, buffer = prepare_print(given, allowed, SIDES, len(made))
                     self.assertEqual((told, buffer.written(len(made))), (plain(SHOW.DONE, len(made)), made))
+                    told, buffer = prepare_print(given, allowed, SIDES, len(made) - 1)
+                    self.assertEqual((told, buffer.written(0)), (plain(SHOW.TOO_SHORT, len(made)), b""))
                     self.assertEqual(made[:8], b"MPC3" + u32(allowed))
                     self.assertEqual(check(given, made), plain(SHOW.DONE))
                     told, buffer = play(given, made, SIDES, 3 * SIDES[0] * SIDES[1])
@@ -272,7 +275,7 @@ class Calls(unittest.TestCase):
             self.assertEqual(terms_of(certificate), (rejected(CODES[fault]), (5, 7, 9)))
 
     def test_each_fault_has_its_name(self):
-        self.assertEqual(sorted(CODES.values()), list(range(1, 48)))
+        self.assertEqual(sorted(CODES.values()), list(range(1, 49)))
         longest = max(map(len, CODES))
         self.assertIn(f"#define METAPLAY_MOST_NAME {longest}\n", (ROOT / "include/metaplay.h").read_text(encoding="utf-8"))
         for name, code in CODES.items():
