@@ -75,7 +75,8 @@ class FinePlane(unittest.TestCase):
 
     @for_each_program
     def test_a_unit_has_as_many_parts_as_the_longer_side_allows(self, program):
-        rows = {(1, 1): 4096, (256, 4): 4096, (257, 1): 2048, (8192, 8192): 128, (524288, 1): 2, (1, 524288): 2, (524289, 1): 1, (1 << 20, 1): 1, ((1 << 20) + 1, 1): 1, (1 << 28, 1): 1}
+        rows = {(1, 1): 4096, (256, 4): 4096, (257, 1): 2048, (8192, 8192): 128, (524288, 1): 2, (1, 524288): 2, (524289, 1): 1}
+        rows |= {(1 << 20, 1): 1, ((1 << 20) + 1, 1): 1, (1 << 28, 1): 1}
         for frame, parts in rows.items():
             given = EMF.file(EMF.records("pixel 1 -2"), frame, 1)
             for sides in ((1, 1), (5, 3)):
