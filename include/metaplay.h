@@ -46,11 +46,11 @@ enum {
     METAPLAY_NO_SUCH_FAULT = 4
 };
 
-/* What the print profile can allow. Each occurs in the report of a certificate only if the file uses it. */
+/* What the print profile can allow. The report of `metaplay check` says which of these a file uses. */
 enum {
     /* The deletion of an object that is selected: what is selected keeps its values. */
     METAPLAY_ALLOW_HELD_DELETION = 1,
-    /* An EMF file that contains EMF+ and whose own records draw nothing. */
+    /* An EMF file that contains EMF+ and of whose own records none makes a drawing. */
     METAPLAY_ALLOW_EMF_PLUS = 2
 };
 
@@ -109,8 +109,8 @@ metaplay_answer metaplay_prepare(const uint8_t *file, size_t file_length, uint32
 
 /*
  * The same under the print profile, for surfaces that are larger than the file's frame (README.md). `allowed` is the
- * sum of what is allowed, or 0; any other number is rejected (fault 8, BadBound). The certificate says both, so that
- * `metaplay_check` and `metaplay_play` go by them.
+ * sum of what is allowed, or 0; any other number is rejected (fault 8, BadBound). The certificate says the profile and
+ * what is allowed, and `metaplay_check` and `metaplay_play` go by that.
  */
 metaplay_answer metaplay_prepare_print(const uint8_t *file, size_t file_length, uint32_t allowed, uint32_t width,
                                        uint32_t height, uint8_t *out, size_t out_length);

@@ -229,7 +229,7 @@ fn profile<'a>(alloc: Global) -> Arg<'a>
     Arg::new(alloc, "PROFILE")
         .long("profile")
         .action(ArgAction::Set)
-        .help("The rules: core, the default, or print, for large surfaces")
+        .help("The rules: core (the default), or print for large surfaces")
 }
 
 /// The option for what the print profile allows.
@@ -240,7 +240,7 @@ fn allow<'a>(alloc: Global) -> Arg<'a>
     Arg::new(alloc, "NAME")
         .long("allow")
         .action(ArgAction::Append)
-        .help("What print also accepts: held-deletion or emf-plus")
+        .help("With print: also accept held-deletion or emf-plus")
 }
 
 /// The width or the height of the surface.

@@ -2,4 +2,4 @@
 
 /// The line that `--version` writes: the version, and the checksum of all sources but this one.
 pub(crate) const VERSION: &str =
-    "metaplay 1.1.0 (sources ebfb4b5e22aa61433227d1e18a7b950f02663865265f881d3ab596f620eb9200)\n";
+    "metaplay 1.1.0 (sources 74db3d73018e89b1ff7ec9afade9a2e17c8bbfb2d7638f779a993524e0c59652)\n";
