@@ -21,8 +21,8 @@ class Uncounted(Exception):
     """Why instructions can't be counted."""
 
 
-def count(program, name):
-    """The instructions of one run on a file: the same from run to run, since the program gets no words of the caller's
+def count(program, name, options=()):
+    """The instructions of one run on a file, with these options: the same from run to run, since the program gets no words of the caller's
     environment and the file is named alike."""
     valgrind = shutil.which("valgrind")
     if valgrind is None:
@@ -31,7 +31,7 @@ def count(program, name):
     with tempfile.TemporaryDirectory() as folder:
         pathlib.Path(folder, "file").write_bytes(counted.given)
         words = [valgrind, "--tool=callgrind", "--callgrind-out-file=/dev/null", os.path.abspath(program)]
-        words += counted.words()
+        words += [*counted.words(), *options]
         ended = subprocess.run(words, cwd=folder, env={}, stdout=subprocess.DEVNULL, stderr=subprocess.PIPE, text=True)
     told = re.search(r"Collected : (\d+)", ended.stderr)
     if ended.returncode != 0 or told is None:

@@ -53,6 +53,7 @@ SIZE = [ctypes.c_uint32, ctypes.c_uint32]
 FUNCTIONS = {
     "metaplay_check": [*BYTES, *BYTES],
     "metaplay_prepare": [*BYTES, *SIZE, *BUFFER],
+    "metaplay_prepare_print": [*BYTES, ctypes.c_uint32, *SIZE, *BUFFER],
     "metaplay_play": [*BYTES, *BYTES, *SIZE, *BUFFER],
     "metaplay_fitted_sides": [*BYTES, *SIZE, ctypes.POINTER(Sides)],
     "metaplay_certificate_terms": [*BYTES, ctypes.POINTER(Terms)],

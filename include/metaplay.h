@@ -46,6 +46,14 @@ enum {
     METAPLAY_NO_SUCH_FAULT = 4
 };
 
+/* What the print profile can allow. The report of `metaplay check` says which of these a file uses. */
+enum {
+    /* The deletion of an object that is selected: what is selected keeps its values. */
+    METAPLAY_ALLOW_HELD_DELETION = 1,
+    /* An EMF file that contains EMF+ and of whose own records none makes a drawing. */
+    METAPLAY_ALLOW_EMF_PLUS = 2
+};
+
 /* The greatest width and height of a surface, in pixels. The least is 1. */
 #define METAPLAY_MOST_SIDE 8192
 
@@ -56,7 +64,7 @@ enum {
 typedef struct metaplay_answer {
     /* One of the outcomes above. */
     uint32_t outcome;
-    /* If the call was rejected, the fault's code, from 1 to 47 (FAULTS.md). */
+    /* If the call was rejected, the fault's code, from 1 to 48 (FAULTS.md). */
     uint32_t fault;
     /* If `has_record_number`, the number of the record that the fault lies in. The first record has number 0. */
     uint32_t record_number;
@@ -92,12 +100,20 @@ metaplay_answer metaplay_check(const uint8_t *file, size_t file_length, const ui
                                size_t certificate_length);
 
 /*
- * Prepares the certificate of a file for surfaces of at most this size, and copies it to the start of `out`. It is
- * accepted by `metaplay_check`. The width and the height must be from 1 to 8,192 (fault 8, BadBound). To learn the
- * length, call it with `out_length` 0; `out` isn't null even then.
+ * Prepares the certificate of a file under the core profile for surfaces of at most this size, and copies it to the
+ * start of `out`. It is accepted by `metaplay_check`. The width and the height must be from 1 to 8,192 (fault 8,
+ * BadBound). To learn the length, call it with `out_length` 0; `out` isn't null even then.
  */
 metaplay_answer metaplay_prepare(const uint8_t *file, size_t file_length, uint32_t width, uint32_t height,
                                  uint8_t *out, size_t out_length);
+
+/*
+ * The same under the print profile, for surfaces that are larger than the file's frame (README.md). `allowed` is the
+ * sum of what is allowed, or 0; any other number is rejected (fault 8, BadBound). The certificate says the profile and
+ * what is allowed, and `metaplay_check` and `metaplay_play` go by that.
+ */
+metaplay_answer metaplay_prepare_print(const uint8_t *file, size_t file_length, uint32_t allowed, uint32_t width,
+                                       uint32_t height, uint8_t *out, size_t out_length);
 
 /*
  * Checks a certificate against a file, plays the file on a white surface of this size, and writes the image to the

@@ -16,6 +16,13 @@ ROOT = pathlib.Path(__file__).resolve().parent.parent
 FOLDER = ROOT / "packaging"
 
 
+# The values of options that have only some; the value of any other option is a number.
+VALUES = {"profile": ["core", "print"], "allow": ["held-deletion", "emf-plus"]}
+
+# The options that may be given more than once.
+REPEATED = {"allow"}
+
+
 class Command(NamedTuple):
     """A command of the program: its name, what it does, its usage without the program's name, and its help line by line."""
 
@@ -113,6 +120,7 @@ def bash(program):
     """The completions for bash."""
     known = list(commands(program))
     cases = "".join(f'        {it.name}) options="{" ".join(f"--{name}" for name, _, _ in long_options(it))}" ;;\n' for it in known)
+    values = "".join(f'        --{name}) mapfile -t COMPREPLY < <(compgen -W "{" ".join(words)}" -- "$word"); return ;;\n' for name, words in VALUES.items())
     return f"""# Completions of metaplay for bash. Made by packaging/make_manual.py.
 _metaplay() {{
     local word=${{COMP_WORDS[COMP_CWORD]}} options=""
@@ -121,6 +129,8 @@ _metaplay() {{
         mapfile -t COMPREPLY < <(compgen -W "{" ".join(it.name for it in known)} help --help --version -V" -- "$word")
         return
     fi
+    case ${{COMP_WORDS[COMP_CWORD - 1]}} in
+{values}    esac
     case ${{COMP_WORDS[1]}} in
 {cases}    esac
     case $word in
@@ -137,13 +147,19 @@ def quoted(text):
     return "'" + text.replace("'", "'\\''") + "'"
 
 
+def described_option(name, about, takes):
+    """An option as zsh's _arguments has it."""
+    value = f":value:({' '.join(VALUES[name])})" if name in VALUES else ":number" * takes
+    return quoted("*" * (name in REPEATED) + f"--{name}[{about}]{value}")
+
+
 def zsh(program):
     """The completions for zsh."""
     known = list(commands(program))
     described = "".join(f"        {quoted(f'{it.name}:{it.about}')}\n" for it in known)
     cases = []
     for it in known:
-        options = "".join(f" {quoted(f'--{name}[{about}]' + ':number' * takes)}" for name, about, takes in long_options(it))
+        options = "".join(f" {described_option(*option)}" for option in long_options(it))
         cases.append(f"    {it.name}) _arguments{options} '*:file:_files' ;;\n")
     return f"""#compdef metaplay
 # Completions of metaplay for zsh. Made by packaging/make_manual.py.
@@ -169,7 +185,7 @@ def fish(program):
     for it in commands(program):
         lines.append(f"complete -c metaplay -n __fish_use_subcommand -f -a {it.name} -d {it.about!r}\n")
         for name, about, takes in long_options(it):
-            value = " -x" if takes else ""
+            value = f" -x -a '{' '.join(VALUES[name])}'" if name in VALUES else " -x" * takes
             lines.append(f"complete -c metaplay -n '__fish_seen_subcommand_from {it.name}' -l {name}{value} -d {about!r}\n")
     return "".join(lines)
 

@@ -6,14 +6,18 @@ _metaplay() {
         mapfile -t COMPREPLY < <(compgen -W "show prepare check play over list info help --help --version -V" -- "$word")
         return
     fi
+    case ${COMP_WORDS[COMP_CWORD - 1]} in
+        --profile) mapfile -t COMPREPLY < <(compgen -W "core print" -- "$word"); return ;;
+        --allow) mapfile -t COMPREPLY < <(compgen -W "held-deletion emf-plus" -- "$word"); return ;;
+    esac
     case ${COMP_WORDS[1]} in
-        show) options="--fit --help" ;;
-        prepare) options="--help" ;;
+        show) options="--fit --profile --allow --help" ;;
+        prepare) options="--profile --allow --help" ;;
         check) options="--help" ;;
         play) options="--bands --fit --help" ;;
         over) options="--help" ;;
-        list) options="--help" ;;
-        info) options="--help" ;;
+        list) options="--profile --allow --help" ;;
+        info) options="--profile --allow --help" ;;
     esac
     case $word in
         -*) mapfile -t COMPREPLY < <(compgen -W "$options" -- "$word") ;;

@@ -114,6 +114,12 @@ def prepare(given, sides, length):
     return numbers(library().library.metaplay_prepare(given, len(given), *sides, *buffer.words())), buffer
 
 
+def prepare_print(given, allowed, sides, length):
+    """The same under the print profile, with what a number allows."""
+    buffer = Buffer(length)
+    return numbers(library().library.metaplay_prepare_print(given, len(given), allowed, *sides, *buffer.words())), buffer
+
+
 def play(given, certificate, sides, length):
     """The same of playing a file."""
     buffer = Buffer(length)

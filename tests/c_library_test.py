@@ -12,7 +12,7 @@ import tempfile
 import unittest
 
 from built import DOT, PROGRAMS, ROOT, SAMPLES, Answer, answer
-from c_library import EXAMPLES, SHOW, STRICT, check, compiled, fault_name, fitted, folder, library, linked_show, loading_show, plain, play, prepare, rejected, terms_of
+from c_library import EXAMPLES, SHOW, STRICT, check, compiled, fault_name, fitted, folder, library, linked_show, loading_show, plain, play, prepare, prepare_print, rejected, terms_of
 from command_inputs import FAR, NOTED, NOTED_CERT, NOTHING, NOTHING_CERT, TRIANGLE, TRIANGLE_CERT, changed
 from commands_test import DOT_CERT
 from metafile.fields import i16, u32
@@ -31,7 +31,7 @@ SIDES = (96, 80)
 CODES = {name: int(code) for code, name in re.findall(r"(?m)^\| (\d+) \| `(\w+)` \|", (ROOT / "docs/FAULTS.md").read_text(encoding="utf-8"))}
 
 # Codes that no fault has.
-NO_CODES = [0, 48, 49, 255, 256, 1 << 8 | 1, (1 << 32) - 1]
+NO_CODES = [0, 49, 50, 255, 256, 1 << 8 | 1, (1 << 32) - 1]
 
 # Sides that no surface has.
 NO_SIDES = [0, 8193, 65536, (1 << 32) - 1]
@@ -48,11 +48,11 @@ def shown(name, width, height):
     return answer(PROGRAM, ["show", SAMPLES / name, str(width), str(height)])
 
 
-def certificate_of(given, width, height):
-    """The certificate that the built program prepares."""
+def certificate_of(given, width, height, *words):
+    """The certificate that the built program prepares, by options for the rules."""
     with tempfile.TemporaryDirectory() as room:
         path = pathlib.Path(room, "certificate")
-        done = answer(PROGRAM, ["prepare", "stdin", str(width), str(height), path], given)
+        done = answer(PROGRAM, ["prepare", "stdin", str(width), str(height), path, *words], given)
         return path.read_bytes() if done.status == 0 else done
 
 
@@ -181,6 +181,31 @@ class Calls(unittest.TestCase):
                     self.assertEqual((told, buffer.written(0)), (plain(SHOW.TOO_SHORT, len(made)), b""))
                 self.assertEqual(check(given, made), plain(SHOW.DONE))
 
+    def test_prepare_print_writes_the_certificate_of_the_command(self):
+        deletion, emf_plus = ["--allow", "held-deletion"], ["--allow", "emf-plus"]
+        for name in NAMES:
+            given = (SAMPLES / name).read_bytes()
+            for allowed, words in enumerate(([], deletion, emf_plus, deletion + emf_plus)):
+                made = certificate_of(given, *SIDES, "--profile", "print", *words)
+                with self.subTest(name=name, allowed=allowed):
+                    if name == HELD_OBJECT and allowed in (0, 2):
+                        self.assertEqual(made, Answer(1, b"", b"metaplay: HeldObject at record 5\n"))
+                        told, buffer = prepare_print(given, allowed, SIDES, 4096)
+                        self.assertEqual((told, buffer.written(0)), (rejected(CODES["HeldObject"], 5), b""))
+                        continue
+                    told, buffer = prepare_print(given, allowed, SIDES, len(made))
+                    self.assertEqual((told, buffer.written(len(made))), (plain(SHOW.DONE, len(made)), made))
+                    told, buffer = prepare_print(given, allowed, SIDES, len(made) - 1)
+                    self.assertEqual((told, buffer.written(0)), (plain(SHOW.TOO_SHORT, len(made)), b""))
+                    self.assertEqual(made[:8], b"MPC3" + u32(allowed))
+                    self.assertEqual(check(given, made), plain(SHOW.DONE))
+                    told, buffer = play(given, made, SIDES, 3 * SIDES[0] * SIDES[1])
+                    image = answer(PROGRAM, ["show", SAMPLES / name, *map(str, SIDES), "--profile", "print", *words]).out
+                    self.assertTrue(buffer.written(told["length"]) == image.split(b"\n255\n", 1)[1])
+            for allowed in (4, 7, 1 << 31, (1 << 32) - 1):
+                told, buffer = prepare_print(given, allowed, SIDES, 4096)
+                self.assertEqual((told, buffer.written(0)), (rejected(CODES["BadBound"]), b""))
+
     def test_play_writes_the_samples_of_the_command(self):
         for name in NAMES:
             if name == HELD_OBJECT:
@@ -250,7 +275,7 @@ class Calls(unittest.TestCase):
             self.assertEqual(terms_of(certificate), (rejected(CODES[fault]), (5, 7, 9)))
 
     def test_each_fault_has_its_name(self):
-        self.assertEqual(sorted(CODES.values()), list(range(1, 48)))
+        self.assertEqual(sorted(CODES.values()), list(range(1, 49)))
         longest = max(map(len, CODES))
         self.assertIn(f"#define METAPLAY_MOST_NAME {longest}\n", (ROOT / "include/metaplay.h").read_text(encoding="utf-8"))
         for name, code in CODES.items():

@@ -10,14 +10,15 @@ from functools import cache
 from typing import NamedTuple
 
 from metafile.scripts import EMF, FORMS, WMF
+from reading.rules import CORE, PRINT, Rules
 from reference.certificates import Certificate, Certifier, Entry, PlaneAxis
 from reference.pixels import LONGEST_NIB
 from reference.player import Reference
 from reference_test import Maker
 from request_program import CHECK, PLAY, PREPARE, PROGRAMS, asked, replies
 
-# How many files there are of each format, and how many of each hundred are played.
-FILES, PLAYED = 1500, 8
+# How many files there are of each format under each profile, and how many of each hundred are played.
+FILES, PLAYED = {CORE: 1500, PRINT: 500}, 8
 
 SEED = 23
 
@@ -41,9 +42,10 @@ class Counted(dict):
 
 
 class Case(NamedTuple):
-    """A file's steps and bytes, its page map, the bound of its certificate, and what is known of it there."""
+    """A file's steps and bytes, its rules, its page map, the bound of its certificate, and what is known of it there."""
 
     form: object
+    rules: Rules
     steps: list
     given: bytes
     axes: tuple
@@ -56,22 +58,29 @@ class Case(NamedTuple):
         return tuple(kind(*axis._replace(surface=side)) for axis, side in zip(self.axes, sides, strict=True))
 
 
-def case(form, nth):
+    def text(self, certificate=None, version=None):
+        """The bytes of its certificate, or of another one."""
+        return (certificate or self.certifier.certificate()).text(version, self.rules.allowed)
+
+
+def case(form, rules, nth):
     """A file and its certificate."""
     maker = Maker(form, f"{form.name} certificate {SEED * 10_000 + nth}")
     steps = maker.steps()
     axes, given = maker.axes_and_file("; ".join(" ".join(map(str, [name, *words])) for name, words in steps))
+    parts = rules.parts([axis.frame for axis in axes])
+    axes = tuple(axis._replace(parts=parts) for axis in axes)
     chance = maker.random
     bound = chance.choice([maker.surface, (chance.randint(1, 40), chance.randint(1, 40)), (LARGEST_SIDE, chance.randint(1, LARGEST_SIDE))])
     plane = tuple(PlaneAxis(*axis._replace(surface=side)) for axis, side in zip(axes, bound, strict=True))
     certifier = Certifier(plane, form is EMF, form.first)
-    return Case(form, steps, given, axes, bound, certifier, certifier.certify(steps))
+    return Case(form, rules, steps, given, axes, bound, certifier, certifier.certify(steps))
 
 
 @cache
 def cases():
     """All files, alike in each run."""
-    return [case(form, nth) for form in FORMS for nth in range(FILES)]
+    return [case(form, rules, nth) for form in FORMS for rules, count in FILES.items() for nth in range(count)]
 
 
 def with_entry(certificate, place, part, change):
@@ -118,7 +127,7 @@ class Certificates(unittest.TestCase):
         self.assertEqual(wrong[:3], [], f"{len(wrong)} of {len(wanted)}")
 
     def test_many_files_are_prepared_with_nibs_and_some_have_too_wide_ones(self):
-        accepted = [it.certifier.certificate().version() for it in cases() if it.refusal is None]
+        accepted = [it.certifier.certificate().version() for it in cases() if it.refusal is None and it.rules == CORE]
         for version in (b"MPC1", b"MPC2"):
             self.assertGreater(4 * accepted.count(version), len(accepted), version)
         too_wide = sum(it.refusal is not None and it.refusal[0] == "NibTooWide" for it in cases())
@@ -129,10 +138,10 @@ class Certificates(unittest.TestCase):
         self.assertIn(refused, range(len(cases()) // 20, len(cases()) // 2))
 
     def test_what_is_prepared_is_the_least(self):
-        requests = [asked(PREPARE, it.bound, it.given) for it in cases()]
+        requests = [asked(PREPARE, it.bound, it.given, rules=it.rules) for it in cases()]
         wanted = []
         for it in cases():
-            text = it.certifier.certificate().text()
+            text = it.text()
             wanted.append((line_of(it.refusal), b"") if it.refusal else (f"prepared {len(text)}", text))
         for program in PROGRAMS:
             self.compare(program, requests, wanted)
@@ -143,8 +152,8 @@ class Certificates(unittest.TestCase):
             if it.refusal is None:
                 for certificate in altered(it.certifier.certificate(), chance):
                     # The version with nibs may tell nibs of one pixel, too.
-                    version = chance.choice([None, None, b"MPC2"])
-                    requests.append(asked(CHECK, (0, 0), it.given, certificate.text(version)))
+                    version = None if it.rules.is_print else chance.choice([None, None, b"MPC2"])
+                    requests.append(asked(CHECK, (0, 0), it.given, it.text(certificate, version)))
                     told = it.certifier.checked(certificate)
                     records = it.form.first + len(it.steps) + 1
                     wanted.append((f"accepted {records}" if told[0] == "accepted" else line_of(told), b""))
@@ -167,12 +176,12 @@ class Certificates(unittest.TestCase):
                 self.assertLessEqual(image.writes, certificate.writes)
                 pixels = [(x, y) for y in range(sides[1]) for x in range(sides[0])]
                 over = b"".join(bytes(before[pixel]) for pixel in pixels)
-                requests.append(asked(PLAY, sides, it.given, certificate.text(), over))
+                requests.append(asked(PLAY, sides, it.given, it.text(), over))
                 shown = b"P6\n%d %d\n255\n" % sides + b"".join(bytes(image[pixel]) for pixel in pixels)
                 wanted.append((f"played {image.writes}", shown))
             larger = it.bound[0] + 1, it.bound[1]
             if max(larger) <= 40:
-                requests.append(asked(PLAY, larger, it.given, certificate.text(), bytes(3 * larger[0] * larger[1])))
+                requests.append(asked(PLAY, larger, it.given, it.text(), bytes(3 * larger[0] * larger[1])))
                 wanted.append(("SurfaceTooLarge", b""))
         for program in PROGRAMS:
             self.compare(program, requests, wanted)

@@ -19,7 +19,7 @@ WHOSE = {
     "The file: what a record says": range(14, 20),
     "The file: a bitmap in a record": range(20, 23),
     "The file: objects, saved states and the clip": range(23, 31),
-    "The file: what a record draws": [*range(31, 38), 46],
+    "The file: what a record draws": [*range(31, 38), 46, 48],
     "The certificate": [*range(6, 10), 38, 39, 47, 40, 41],
     "The size": [42],
     "The image": [43],
@@ -45,7 +45,7 @@ class Faults(unittest.TestCase):
     def test_each_fault_has_one_row_with_its_code(self):
         rows = [(name, int(code)) for code, name in ROW.findall(PAGE)]
         self.assertEqual(sorted(rows), sorted((name, code) for name, (code, _) in defined().items()))
-        self.assertEqual(len(rows), 47)
+        self.assertEqual(len(rows), 48)
 
     def test_each_name_stands_once_between_backticks(self):
         quoted = re.findall(r"`(\w+)`", PAGE)
@@ -57,8 +57,8 @@ class Faults(unittest.TestCase):
 
     def test_the_faults_that_lie_in_a_record_are_those_that_the_page_says(self):
         codes = sorted(code for code, lies in defined().values() if lies)
-        self.assertEqual(codes, [*range(10, 40), 46, 47])
-        self.assertIn("for the faults 10 to 39, 46 and 47, the record", PAGE)
+        self.assertEqual(codes, [*range(10, 40), 46, 47, 48])
+        self.assertIn("for the faults 10 to 39 and 46 to 48, the record", PAGE)
 
     def test_each_row_has_every_column(self):
         rows = [line for line in PAGE.splitlines() if ROW.match(line)]

@@ -9,6 +9,7 @@ from listing_test import all_kinds, altered, samples
 from metafile.fields import i16, i32, u16, u32
 from metafile.files import EMF_END, WMF_END, emf_file, emf_record, placeable_file, plain_file, wmf_record
 from reading.info import info
+from reading.rules import CORE, PRINT, Rules
 from request_program import INFO, PROGRAMS, Command, replies
 from standards.emf import EMF
 from standards.wmf import WMF
@@ -32,9 +33,13 @@ NOTHING_LINE = (
 EXTENT = wmf_record(0x020C, i16(4, 4))
 
 
-def lines(program, cases):
+# Rules: those of core, and those of the print profile that allow nothing, and all.
+RULES = [CORE, PRINT, Rules(True, True, True)]
+
+
+def lines(program, cases, rules=CORE):
     """The lines of pairs of a name and a file."""
-    return [made for _, made in replies(program, [Command(INFO, given, name.encode()).asked() for name, given in cases])]
+    return [made for _, made in replies(program, [Command(INFO, given, name.encode(), rules=rules).asked() for name, given in cases])]
 
 
 class Information(unittest.TestCase):
@@ -43,10 +48,11 @@ class Information(unittest.TestCase):
     def check(self, cases, programs=PROGRAMS):
         """The lines of pairs of a name and a file are those of `reading`."""
         cases = list(cases)
-        wanted = [info(name, given)[0] for name, given in cases]
-        for program in programs:
-            for case, found, line in zip(cases, lines(program, cases), wanted, strict=True):
-                self.assertEqual(found, line, case)
+        for rules in RULES:
+            wanted = [info(name, given, rules)[0] for name, given in cases]
+            for program in programs:
+                for case, found, line in zip(cases, lines(program, cases, rules), wanted, strict=True):
+                    self.assertEqual(found, line, (case, rules))
 
     def test_lines_by_hand(self):
         for program in PROGRAMS:

@@ -180,7 +180,14 @@ class Made(unittest.TestCase):
         self.assertEqual(stale(PROGRAMS[0]), [], "packaging/make_manual.py writes them")
 
     def test_bash_completes_commands_options_and_files(self):
-        for words, wanted in [(["pre"], ["prepare"]), (["play", "--b"], ["--bands"]), (["show", "-"], ["--fit", "--help"])]:
+        rows = [
+            (["pre"], ["prepare"]),
+            (["play", "--b"], ["--bands"]),
+            (["show", "-"], ["--fit", "--profile", "--allow", "--help"]),
+            (["list", "--profile", ""], ["core", "print"]),
+            (["info", "--allow", "e"], ["emf-plus"]),
+        ]
+        for words, wanted in rows:
             count = len(words)
             script = f'. "$1"; shift; COMP_WORDS=(metaplay "$@"); COMP_CWORD={count}; _metaplay; printf "%s\\n" "${{COMPREPLY[@]}}"'
             ran = subprocess.run(["bash", "-c", script, "bash", ROOT / "packaging/metaplay.bash", *words], capture_output=True, text=True, check=True)
@@ -199,7 +206,9 @@ class Made(unittest.TestCase):
         ran = subprocess.run(["zsh", "-fc", script], capture_output=True, text=True, check=True)
         wanted = [f"{it.name}:{it.about}" for it in commands(PROGRAMS[0])] + ["help", "--help", "--version"]
         for it in commands(PROGRAMS[0]):
-            wanted += [f"--{name}[{about}]{':number' if takes else ''}" for name, about, takes in long_options(it)] + ["*:file:_files"]
+            values = {"profile": ":value:(core print)", "allow": ":value:(held-deletion emf-plus)"}
+            options = [(name, f"--{name}[{about}]" + values.get(name, ":number" * takes)) for name, about, takes in long_options(it)]
+            wanted += ["*" * (name == "allow") + option for name, option in options] + ["*:file:_files"]
         self.assertEqual((ran.stdout.splitlines(), ran.stderr), (wanted, ""))
 
     def test_the_manual_has_each_command_and_each_fault(self):

@@ -10,6 +10,10 @@ sys.path.append(str(ROOT / "bench"))
 from instruction_counts import FILES, count, is_within, most_of, on_record  # noqa: E402
 
 
+# Files whose page map scales, and how many times its instructions under the core profile such a file may take under the print profile.
+SCALED, MOST_PRINT = ["100,000 points on a map that scales, 64 by 64", "20 strokes beside a narrow surface, 16 by 64"], 1.3
+
+
 class Instructions(unittest.TestCase):
     """No file takes more than 1.3 times the instructions on record, fourteen no more than 1.15. The record is of the program as LLVM builds it."""
 
@@ -30,6 +34,11 @@ class Instructions(unittest.TestCase):
                 taken = count(PROGRAMS[0], name)
                 told = f"{taken:,} instructions, {taken / recorded[name]:.2f} times the {recorded[name]:,} on record"
                 self.assertTrue(is_within(taken, recorded[name], most_of(name)), told)
+
+    def test_a_map_that_scales_takes_little_more_under_the_print_profile(self):
+        for name in SCALED:
+            core, fine = count(PROGRAMS[0], name), count(PROGRAMS[0], name, ["--profile", "print"])
+            self.assertTrue(is_within(fine, core, MOST_PRINT), f"{name}: {fine:,} under print, {fine / core:.3f} times the {core:,} under core")
 
 
 if __name__ == "__main__":

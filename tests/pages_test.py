@@ -10,8 +10,13 @@ PAGES = ["README.md", "docs/PROMISES.md", "docs/LAYERS.md", "docs/DECISIONS.md",
 
 # Words that are neither names of this repository nor files of it.
 OTHERS = {
+    "--allow": "an option of the command line",
+    "--allow emf-plus": "an option of the command line",
+    "--allow held-deletion": "an option of the command line",
     "--bands ROWS": "an option of the command line",
     "--fit": "an option of the command line",
+    "--profile core": "an option of the command line",
+    "--profile print": "an option of the command line",
     "--version": "an option of the command line",
     "-V": "an option of the command line",
     "crates/meta_main/out/meta_main": "the built program",

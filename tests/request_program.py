@@ -9,6 +9,7 @@ import unittest
 from typing import NamedTuple
 
 from built import CRATES
+from reading.rules import CORE, Rules
 
 PROGRAMS = [CRATES / "test_requests/out/test_requests", CRATES / "test_requests/out/test_requests.by-rattle"]
 
@@ -17,9 +18,9 @@ PROGRAMS = [CRATES / "test_requests/out/test_requests", CRATES / "test_requests/
 PREPARE, CHECK, PLAY, COUNT, SHOW, PREPARE_COMMAND, CHECK_COMMAND, PLAY_COMMAND, OVER, LIST, INFO = range(11)
 
 
-def asked(kind, sides, given, certificate=b"", image=b""):
-    """A request."""
-    return struct.pack("<5I", kind, *sides, len(given), len(certificate)) + given + certificate + image
+def asked(kind, sides, given, certificate=b"", image=b"", rules=CORE):
+    """A request, by rules."""
+    return struct.pack("<5I", kind | rules.number() << 16, *sides, len(given), len(certificate)) + given + certificate + image
 
 
 class Output(NamedTuple):
@@ -43,11 +44,12 @@ class Command(NamedTuple):
     image: bytes = b""
     out: Output = WORKING
     err: Output = WORKING
+    rules: Rules = CORE
 
     def numbers(self):
         """The numbers of the request."""
         lengths = len(self.given), len(self.certificate), len(self.image)
-        return (self.kind, *self.sides, *lengths, self.rows, *self.out, *self.err)
+        return (self.kind | self.rules.number() << 16, *self.sides, *lengths, self.rows, *self.out, *self.err)
 
     def asked(self):
         """The request."""

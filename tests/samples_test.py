@@ -41,6 +41,7 @@ PICTURES = {
     "raster_ops.emf": None,
     "bitmaps.wmf": None,
     "bitmaps.emf": None,
+    "page.emf": None,
 }
 
 # The side of the surface that pictures are made for.

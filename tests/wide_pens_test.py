@@ -234,7 +234,7 @@ class Certificates(WideTest):
         plain = LEVEL_CERTIFICATE.text(b"MPC1")
         self.assertEqual(len(plain), 60)
         self.check_checked(program, LEVEL_FILE, b"MPC2" + plain[4:], ("ShortCertificate", 7, None))
-        self.check_checked(program, LEVEL_FILE, b"MPC3" + LEVEL_TEXT[4:], ("NotCertificate", 6, None))
+        self.check_checked(program, LEVEL_FILE, b"MPC4" + LEVEL_TEXT[4:], ("NotCertificate", 6, None))
 
     @for_each_program
     def test_nibs_of_one_pixel_in_either_version(self, program):

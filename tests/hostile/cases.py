@@ -9,6 +9,7 @@ from hostile.changes import certificate_changed, changed, image_changed
 from hostile.corpus import corpus
 from reading.certificates import read_certificate
 from reading.commands import Asked
+from reading.rules import CORE, Rules
 from reference.certificates import Certificate
 from reference.pixels import Refused
 
@@ -20,10 +21,11 @@ PIXELS, FEW_PIXELS, MANY_RECORDS = 120, 24, 40
 
 
 class Case(NamedTuple):
-    """A file, a certificate, the bound for which one is prepared, the sides at which it is shown and played, and the text of an image, if it is
+    """A file, the rules that are given for it, a certificate, the bound for which one is prepared, the sides at which it is shown and played, and the text of an image, if it is
     played over one."""
 
     file: bytes
+    rules: Rules
     certificate: bytes
     bound: tuple
     shown: tuple
@@ -45,17 +47,17 @@ class Case(NamedTuple):
     def commands(self):
         """The commands that are given, each by the words behind its name, and its answer. Files are told by the letters `f`,
         `c` and `i`."""
-        asked = Asked(self.file)
+        asked, words = Asked(self.file, self.rules), self.rules.words()
         made = [
-            (("prepare", "f", *self.bound, "/dev/stdout"), asked.prepare(self.bound)),
+            (("prepare", "f", *self.bound, "/dev/stdout", *words), asked.prepare(self.bound)),
             (("check", "f", "c"), asked.check(self.certificate)),
-            (("show", "f", *self.shown), asked.show(self.shown)),
+            (("show", "f", *self.shown, *words), asked.show(self.shown)),
         ]
         if self.image is None:
             made.append((("play", "f", "c", *self.played), asked.play(self.certificate, self.played)))
         else:
             made.append((("over", "f", "c", "i"), asked.over(self.certificate, self.image)))
-        return [*made, (("list", "f"), asked.list())] if has_list() else made
+        return [*made, (("list", "f", *words), asked.list())] if has_list() else made
 
 
 @cache
@@ -84,8 +86,8 @@ def file_of(chance):
 
 def certificate_of(chance, asked, base, bound):
     """A certificate for a file, or where it has none for the file that it was made from: mostly changed."""
-    prepared = asked.prepared(bound) or Asked(base).prepared(bound)
-    data = (prepared or Certificate(*bound, 0, 0, 0, 0, 0, ())).text()
+    prepared = asked.prepared(bound) or Asked(base, asked.rules).prepared(bound)
+    data = asked.text(prepared or Certificate(*bound, 0, 0, 0, 0, 0, ()))
     for _ in range(chance.choices([0, 1, 2], [10, 9, 1])[0]):
         data = certificate_changed(chance, data)
     return data
@@ -101,14 +103,21 @@ def image_of(chance, sides):
     return data
 
 
+def rules_of(seed, number):
+    """The rules of a case: in half of the cases those of core, and otherwise of the print profile, which allows anything."""
+    chance = random.Random(f"rules {seed} {number}")
+    return chance.choice([CORE, Rules(True, chance.random() < 0.5, chance.random() < 0.5)])
+
+
 def case(seed, number):
     """A case, by a seed and its number."""
     chance = random.Random(f"{seed} {number}")
     base, file = file_of(chance)
-    asked = Asked(file)
+    rules = rules_of(seed, number)
+    asked = Asked(file, rules)
     pixels = FEW_PIXELS if asked.steps and len(asked.steps.read) > MANY_RECORDS else PIXELS
     small = sides(chance, pixels)
     bound = chance.choice([small, small, small, sides(chance, pixels), (chance.randint(1, 8192), 8192)])
     within = tuple(min(side, most) for side, most in zip(small, bound, strict=True))
     played = chance.choice([within, within, within, (1, 1), small, sides(chance, pixels)])
-    return Case(file, certificate_of(chance, asked, base, bound), bound, small, played, image_of(chance, played))
+    return Case(file, rules, certificate_of(chance, asked, base, bound), bound, small, played, image_of(chance, played))

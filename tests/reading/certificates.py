@@ -1,6 +1,7 @@
 """Reads certificates from their bytes, and checks what they say against what the records of a file draw."""
 
 from reading.fields import Record, fault
+from reading.rules import CORE, Rules
 from reference.certificates import ENTRY_SIZES, HEAD, Certificate, Entry, entry_refusal
 from reference.pixels import LONGEST_NIB
 
@@ -16,8 +17,33 @@ def entry_in(told):
     return Entry(told.u32(0), *told.signed(4, 4, 4), *nib)
 
 
+# The first bytes of a certificate of the print profile, how many bytes stand before its entries, and the greatest number of what it allows.
+PRINT_MARK = b"MPC3"
+PRINT_HEAD = 4 + HEAD
+MOST_ALLOWED = 3
+
+
+def rules_in(data):
+    """The rules by which a certificate was made."""
+    if data[:4] != PRINT_MARK or len(data) < PRINT_HEAD:
+        return CORE
+    allowed = Record(data).u32(4)
+    return Rules(True, allowed % 2 == 1, allowed >= 2)
+
+
+def without_rules(data):
+    """The bytes of a certificate of the print profile as one of core, or their first fault."""
+    if len(data) < PRINT_HEAD:
+        raise fault("ShortCertificate")
+    if Record(data).u32(4) > MOST_ALLOWED:
+        raise fault("BadBound")
+    return b"MPC2" + data[8:]
+
+
 def read_certificate(data):
     """What the bytes of a certificate say, or their first fault."""
+    if data[:4] == PRINT_MARK:
+        data = without_rules(data)
     head = Record(data)
     if data[:4] not in ENTRY_SIZES:
         raise fault("NotCertificate")

@@ -6,11 +6,12 @@ from functools import cache
 
 from answers import refused, shown
 from built import ROOT, Answer
-from reading.certificates import read_certificate, refusal_of
+from reading.certificates import read_certificate, refusal_of, rules_in
 from reading.fields import text_of
 from reading.images import read_image
 from reading.listing import listing
 from reading.playing import Steps
+from reading.rules import CORE
 from reference.pixels import Refused
 
 # The longest side of a surface.
@@ -37,17 +38,28 @@ def refused_report(text, record):
 
 
 class Asked:
-    """A file, of which each command is answered: what is found out is kept for the next."""
+    """A file, of which each command is answered by rules: what is found out is kept for the next."""
 
-    def __init__(self, file):
+    def __init__(self, file, rules=CORE):
         self.file = file
+        self.rules = rules
+        self.others = {}
         self.certified_at = {}
         self.images = {}
         self.steps, self.refusal = None, None
         try:
-            self.steps = Steps(file)
+            self.steps = Steps(file, rules)
         except Refused as refusal:
             self.refusal = text_of(refusal), None
+
+    def by_rules_of(self, data):
+        """The same file by the rules of a certificate."""
+        rules = rules_in(data)
+        if rules == self.rules:
+            return self
+        if rules not in self.others:
+            self.others[rules] = Asked(self.file, rules)
+        return self.others[rules]
 
     def certified(self, sides):
         """The certifier at a bound, and the refusal there, if there is one."""
@@ -62,10 +74,14 @@ class Asked:
         certifier, refusal = self.certified(sides)
         return None if refusal else certifier.certificate()
 
+    def text(self, certificate):
+        """The bytes of a certificate."""
+        return certificate.text(allowed=self.rules.allowed)
+
     def prepare(self, sides):
         """The answer of `prepare` to standard output."""
         refusal = self.certified(sides)[1]
-        return refused(*refusal) if refusal else Answer(0, self.prepared(sides).text(), b"")
+        return refused(*refusal) if refusal else Answer(0, self.text(self.prepared(sides)), b"")
 
     def image(self, sides):
         """The image on a surface, and how many pixels were written."""
@@ -98,6 +114,10 @@ class Asked:
 
     def check(self, data):
         """The answer of `check`."""
+        return self.by_rules_of(data).own_check(data)
+
+    def own_check(self, data):
+        """The same for a certificate by these rules."""
         certificate, refusal = self.checked(data)
         if refusal:
             return refused_report(*refusal)
@@ -106,10 +126,16 @@ class Asked:
         members |= {"max": certificate[:2], "drawings": len(certificate.entries), "records": len(self.steps.read)}
         noted = self.steps.notes
         members |= {"format": self.steps.form.name, "frame": self.steps.opened.frame, "notes": {note: noted.count(note) for note in noted}}
+        if self.rules.is_print:
+            members |= {"profile": "print", "allowed": self.steps.uses(self.certified(certificate[:2])[0])}
         return report(0, members)
 
     def over(self, data, text):
         """The answer of `over`."""
+        return self.by_rules_of(data).own_over(data, text)
+
+    def own_over(self, data, text):
+        """The same for a certificate by these rules."""
         certificate, refusal = self.checked(data)
         if refusal:
             return refused(*refusal)
@@ -125,6 +151,10 @@ class Asked:
 
     def play(self, data, sides):
         """The answer of `play`."""
+        return self.by_rules_of(data).own_play(data, sides)
+
+    def own_play(self, data, sides):
+        """The same for a certificate by these rules."""
         certificate, refusal = self.checked(data)
         if refusal:
             return refused(*refusal)

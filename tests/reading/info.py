@@ -8,6 +8,7 @@ from math import floor
 from reading.commands import LARGEST_SIDE, Asked, codes
 from reading.fields import Record, text_of
 from reading.opening import EMF, PLACEABLE, form_of
+from reading.rules import CORE
 from reference.pixels import Refused
 
 # The names in a line.
@@ -29,6 +30,9 @@ NAMES = [
     "records",
     "size",
 ]
+
+# Those that a line has only under the print profile.
+PRINT_NAMES = ["allowed", "profile"]
 
 # The largest number in a size.
 LARGEST = (1 << 32) - 1
@@ -101,14 +105,16 @@ def counted(faults):
     return [{"count": count, "fault": name, "number": kind} for name, kind, count in parts]
 
 
-def line_of(members):
-    """The line with these members."""
-    return json.dumps({name: members.get(name) for name in NAMES}, separators=(",", ":"), ensure_ascii=False).encode() + b"\n"
+def line_of(members, rules):
+    """The line with these members, by rules."""
+    names = sorted([*NAMES, *PRINT_NAMES]) if rules.is_print else NAMES
+    members = members | {"profile": "print"}
+    return json.dumps({name: members.get(name) for name in names}, separators=(",", ":"), ensure_ascii=False).encode() + b"\n"
 
 
-def unread(name, error):
+def unread(name, error, rules=CORE):
     """The line of a file that wasn't read."""
-    return line_of({"file": name, "error": error})
+    return line_of({"file": name, "error": error}, rules)
 
 
 def sizes(file, opened):
@@ -120,17 +126,17 @@ def sizes(file, opened):
 
 def playing(asked):
     """How the run on the largest surface ends."""
-    refusal = asked.certified((LARGEST_SIDE, LARGEST_SIDE))[1]
+    certifier, refusal = asked.certified((LARGEST_SIDE, LARGEST_SIDE))
     if refusal:
         name, kind = fault_parts(refusal[0])
         return {"plays": False, "fault": name, "number": kind, "record": refusal[1]}
     certificate = asked.prepared((LARGEST_SIDE, LARGEST_SIDE))
-    return {"plays": True, "drawings": len(certificate.entries), "objects": certificate[4]}
+    return {"plays": True, "allowed": asked.steps.uses(certifier), "drawings": len(certificate.entries), "objects": certificate[4]}
 
 
-def info(name, file):
+def info(name, file, rules=CORE):
     """The line of a file, and the status of `info` for it."""
-    asked, form = Asked(file), form_of(file)
+    asked, form = Asked(file, rules), form_of(file)
     faults, notes, members = Counter(), Counter(), {"file": name}
     stops = []
     if asked.refusal:
@@ -144,4 +150,4 @@ def info(name, file):
         faults, notes = faults + counts.faults, notes + counts.notes
         members |= {"format": form.name, "records": counts.records}
     members |= {"faults": counted(faults), "notes": dict(sorted(notes.items())), **playing(asked)}
-    return line_of(members), 0 if members["plays"] else 1
+    return line_of(members, rules), 0 if members["plays"] else 1

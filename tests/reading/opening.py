@@ -5,6 +5,7 @@ from typing import NamedTuple
 
 from reading import emf, wmf
 from reading.fields import Record, fault
+from reading.rules import CORE, Rules
 from reference.pixels import Refused
 
 LONGEST_FILE = 1 << 26
@@ -64,13 +65,18 @@ EMF = Form("emf", EMF_FRAMING, emf.step_of, 0)
 
 class Opened(NamedTuple):
     """An opened file: its form, the sides of its frame, the numbers of each axis of its page at the start (origin and extent of the window, and of
-    the viewport, and the corner), how many indexes it may use, where it says so, and what is noted of its headers."""
+    the viewport, and the corner), how many indexes it may use, where it says so, what is noted of its headers, and the rules."""
 
     form: Form
     frame: tuple
     axes: tuple
     handles: int | None
     notes: list
+    rules: Rules = CORE
+
+    def parts(self):
+        """How many parts of the plane a unit of its frame has."""
+        return self.rules.parts(self.frame)
 
 
 def is_standard_header(head, at):

@@ -5,6 +5,7 @@ from typing import NamedTuple
 
 from reading.fields import Record, fault, text_of
 from reading.opening import opened
+from reading.rules import CORE
 from reference.certificates import Certifier, PlaneAxis
 from reference.pixels import LONGEST_NIB, PLACED_END, Axis, NibTooWide, OffPlane, Refused
 from reference.player import Reference
@@ -32,6 +33,10 @@ class Moment(NamedTuple):
     is_text: bool
     held: dict
 
+    def without(self, index):
+        """The same, where an index that is deleted isn't in use."""
+        return self._replace(held={kind: None if own == index else own for kind, own in self.held.items()})
+
 
 class Records:
     """What records of files do that those of scripts don't."""
@@ -39,6 +44,8 @@ class Records:
     def begin(self, file):
         """Begins with the state that an opened file has, before its first record."""
         self.handles = file.handles
+        self.rules = file.rules
+        self.held_deletions = 0
         self.kinds = {}
         self.slots = 0
         self.moment = Moment(file.form.is_emf, {})
@@ -96,7 +103,10 @@ class Records:
         if index not in self.kinds:
             raise fault("NoSuchHandle")
         if any(index in moment.held.values() for moment in [self.moment, *self.moments]):
-            raise fault("HeldObject")
+            if not self.rules.allows_held_deletion:
+                raise fault("HeldObject")
+            self.moment, *self.moments = [moment.without(index) for moment in [self.moment, *self.moments]]
+            self.held_deletions += 1
         del self.kinds[index], self.objects[index]
 
     # Saved states, the clip, the map.
@@ -232,9 +242,9 @@ class Counted(dict):
 class Steps:
     """The records of a file as steps, each read once."""
 
-    def __init__(self, file):
+    def __init__(self, file, rules=CORE):
         self.file = file
-        self.opened = opened(file)
+        self.opened = opened(file)._replace(rules=rules)
         self.form = self.opened.form
         self.read = []
         self.places = []
@@ -265,7 +275,8 @@ class Steps:
 
     def axes(self, sides, axis):
         """The page map on a surface."""
-        return tuple(axis(*numbers, frame, side) for numbers, frame, side in zip(self.opened.axes, self.opened.frame, sides, strict=True))
+        parts = self.opened.parts()
+        return tuple(axis(*numbers, frame, side, parts) for numbers, frame, side in zip(self.opened.axes, self.opened.frame, sides, strict=True))
 
     def certifier(self, sides):
         """A certifier at a bound, before the first record."""
@@ -276,12 +287,27 @@ class Steps:
     def certified(self, sides):
         """The certifier of these records at a bound, and the first fault with its record, if there is one."""
         certifier = self.certifier(sides)
-        return certifier, certifier.certify(self.read) or self.refusal
+        return certifier, certifier.certify(self.read) or self.refusal or self.alone(certifier)
+
+    def has_emf_plus_alone(self, certifier):
+        """Whether there is EMF+ beside which the records draw nothing. The core profile doesn't look at that."""
+        return self.opened.rules.is_print and "EmfPlus" in self.notes and not certifier.drawings
+
+    def alone(self, certifier):
+        """The fault of that, where the rules don't allow it, with the last record."""
+        is_fault = self.has_emf_plus_alone(certifier) and not self.opened.rules.emf_plus
+        return ("EmfPlusAlone", len(self.read) - 1) if is_fault else None
+
+    def uses(self, certifier):
+        """What records without a fault use of what rules allow, by name, and how often."""
+        counts = {"emf-plus": int(self.has_emf_plus_alone(certifier)), "held-deletion": certifier.held_deletions}
+        return {name: count for name, count in counts.items() if count}
 
     def faults(self, smallest, largest):
         """The records that are refused on a surface of these sides at most, each with its fault, up to the first that each surface refuses."""
-        limits = [Limit(frame, largest) for frame in self.opened.frame]
-        axes = [limit.axis(*numbers, limit.frame, smallest) for limit, numbers in zip(limits, self.opened.axes, strict=True)]
+        parts = self.opened.parts()
+        limits = [Limit(frame * parts, largest) for frame in self.opened.frame]
+        axes = [limit.axis(*told, side, smallest, parts) for limit, told, side in zip(limits, self.opened.axes, self.opened.frame, strict=True)]
         judge = FileJudge(axes, self.form.is_emf, limits)
         judge.begin(self.opened)
         found = []
@@ -290,8 +316,9 @@ class Steps:
             if fault:
                 found.append((number, fault))
             if is_last:
-                break
-        return found
+                return found
+        alone = None if self.refusal else self.alone(judge)
+        return [*found, alone[::-1]] if alone else found
 
     def image(self, sides, before=None):
         """The image of these records, which have no fault at these sides, over white or over what was there before."""

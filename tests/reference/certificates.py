@@ -5,7 +5,7 @@ import struct
 from typing import NamedTuple
 
 from reference.bitmaps import SourceMissing, depends_on_source
-from reference.pixels import ONE_PIXEL, PLACED_END, PLANE_END, Axis, OffPlane, Refused
+from reference.pixels import ONE_PIXEL, Axis, Refused
 from reference.player import Reference, lists_of, pairs_of
 
 # The box of a drawing without a point.
@@ -21,18 +21,14 @@ class PlaneAxis(Axis):
 
     def placed(self, number):
         """The coordinate on the plane."""
-        scaled = (number - self.window) * self.viewport_extent // self.window_extent
-        plane = scaled + self.viewport - self.corner
-        if abs(plane) > PLANE_END or abs(plane * self.surface // self.frame) > PLACED_END:
-            raise OffPlane
-        return plane
+        return self.plane(number)
 
     def cells(self, low, high):
         """How many columns or rows of the surface the plane from one coordinate to another meets at most."""
-        if high < low or high < 0 or self.frame <= low:
+        if high < low or high < 0 or self.fine <= low:
             return 0
-        span = min(high, self.frame) - max(low, 0)
-        return min(self.surface, -(-span * self.surface // self.frame) + 1)
+        span = min(high, self.fine) - max(low, 0)
+        return min(self.surface, -(-span * self.surface // self.fine) + 1)
 
     def wide_cells(self, low, high, count):
         """How many a nib of so many columns or rows covers at most that is led from one coordinate to another: also of a line that passes the
@@ -117,11 +113,12 @@ class Certificate(NamedTuple):
         """The first bytes that it is prepared with: those of the version without nibs exactly where each nib is one pixel."""
         return b"MPC2" if any(entry.nib != ONE_PIXEL for entry in self.entries) else b"MPC1"
 
-    def text(self, version=None):
-        """Its bytes, of the version that it is prepared with or of another one."""
-        version = version or self.version()
-        head = struct.pack("<4s2IQ5I", version, self.width, self.height, self.writes, *self[3:7], len(self.entries))
-        return head + b"".join(entry.text(version == b"MPC2") for entry in self.entries)
+    def text(self, version=None, allowed=None):
+        """Its bytes, of the version that it is prepared with or of another one; or of the print profile, with the number of what is allowed."""
+        version = version or (self.version() if allowed is None else b"MPC3")
+        mark = version if allowed is None else struct.pack("<4sI", version, allowed)
+        head = struct.pack("<2IQ5I", self.width, self.height, self.writes, *self[3:7], len(self.entries))
+        return mark + head + b"".join(entry.text(version != b"MPC1") for entry in self.entries)
 
 
 def entry_refusal(drawings, entries):

@@ -36,7 +36,7 @@ class NibTooWide(Refused):
 
 class Axis(NamedTuple):
     """One axis of the page map: a window and a viewport, each by its origin and its extent, the
-    frame's corner on the plane and its side, and the surface's side."""
+    frame's corner and its side, the surface's side, and how many parts of the plane a unit has."""
 
     window: int
     window_extent: int
@@ -45,15 +45,24 @@ class Axis(NamedTuple):
     corner: int
     frame: int
     surface: int
+    parts: int = 1
+
+    @property
+    def fine(self):
+        """The frame's side on the plane."""
+        return self.frame * self.parts
+
+    def plane(self, number):
+        """The coordinate on the plane, rounded down, which lands within the limits."""
+        scaled = (number - self.window) * self.viewport_extent * self.parts // self.window_extent
+        plane = scaled + (self.viewport - self.corner) * self.parts
+        if abs(plane) > PLANE_END or abs(plane * self.surface // self.fine) > PLACED_END:
+            raise OffPlane
+        return plane
 
     def placed(self, number):
         """The place on the surface, rounded down on the plane first."""
-        scaled = (number - self.window) * self.viewport_extent // self.window_extent
-        plane = scaled + self.viewport - self.corner
-        place = plane * self.surface // self.frame
-        if abs(plane) > PLANE_END or abs(place) > PLACED_END:
-            raise OffPlane
-        return place
+        return self.plane(number) * self.surface // self.fine
 
     def nib_side(self, width):
         """How many pixels of this side a pen covers, whose width is that of the page: rounded down, but one at least."""
@@ -67,6 +76,16 @@ def nib_of(width, axes):
     if max(nib) > LONGEST_NIB:
         raise NibTooWide
     return nib
+
+
+# How many parts of the plane a unit may have where the plane is fine, and how many the longer side of the frame then has at most.
+PARTS = [1 << power for power in range(13)]
+MOST_ON_SIDE = 1 << 20
+
+
+def fine_parts(frame):
+    """How many parts a unit has on the fine plane of a frame: as many as its longer side has room for, or one."""
+    return max((parts for parts in PARTS if parts * max(frame) <= MOST_ON_SIDE), default=1)
 
 
 # Shapes.

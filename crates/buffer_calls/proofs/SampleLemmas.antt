@@ -6,6 +6,7 @@ use Rattle.mapping.specs.Colours.{white_colour}
 use Rattle.mapping.specs.Image.{Image}
 use Rattle.mapping.specs.declared.geometry.Colour.{Colour}
 use Rattle.canvas.specs.Ppm.{header, raster}
+use Rattle.draw_ops.specs.declared.rules.Rules.{Rules}
 use Rattle.dc_stack.specs.State.{start_of}
 use Rattle.meta_headers.specs.Opening.{surface_for}
 use Rattle.preflight_cert.specs.Apply.{image_after}
@@ -27,8 +28,8 @@ record IsSized (width height : ℕ) (image : Image) : Type 0 where
   whole : length image.colours ≡ height * width
 
 -- the image that a run makes on white has the size of the surface
-sized : RowsLaws → (file : List ℕ) (width height : ℕ) (image : Image) → 1 ≤ width → Run file width height (white width height) (shown image) → IsSized width height image
-sized laws file width height image some run =
+sized : RowsLaws → (rules : Rules) (file : List ℕ) (width height : ℕ) (image : Image) → 1 ≤ width → Run rules file width height (white width height) (shown image) → IsSized width height image
+sized laws rules file width height image some run =
     let drawings = drawings_of run.content.steps (start_of run.headers) in
     let s = surface_for run.headers width height in
     let after = image_after drawings s (white width height) in
@@ -41,11 +42,11 @@ sized laws file width height image some run =
 three_times : (width height : ℕ) → 3 * (height * width) ≡ sample_count width height
 three_times width height = ap (λ (n : ℕ). 3 * n) (mul_comm height width) ∙ sym (mul_assoc 3 width height)
 
-module _ (laws : RowsLaws) (file : List ℕ) (width height : ℕ) (some : 1 ≤ width) (head after text : List ℕ)
-    (run : IsRunText file width height (white width height) text) (of_header : length head ≡ length (header width height))
+module _ (laws : RowsLaws) (rules : Rules) (file : List ℕ) (width height : ℕ) (some : 1 ≤ width) (head after text : List ℕ)
+    (run : IsRunText rules file width height (white width height) text) (of_header : length head ≡ length (header width height))
     (of_samples : length after ≡ sample_count width height) where
   size : IsSized width height run.image
-  size = sized laws file width height run.image some run.run
+  size = sized laws rules file width height run.image some run.run
 
   split : text ≡ header width height ++ raster run.image.colours
   split =
@@ -61,7 +62,7 @@ module _ (laws : RowsLaws) (file : List ℕ) (width height : ℕ) (some : 1 ≤ 
       omega (arith, count, of_text, of_both, of_header, of_samples)
 
   -- if header and samples are the text, the samples are the raster
-  whole : head ++ after ≡ text → HasSamples file width height after
+  whole : head ++ after ≡ text → HasSamples rules file width height after
   whole same = record {
     image = run.image;
     run = run.run;
@@ -71,14 +72,14 @@ module _ (laws : RowsLaws) (file : List ℕ) (width height : ℕ) (some : 1 ≤ 
   }
 
   -- a writer accepted the whole text
-  whole_samples : (written : ℕ) → take written (head ++ after) ≡ text → HasSamples file width height after
+  whole_samples : (written : ℕ) → take written (head ++ after) ≡ text → HasSamples rules file width height after
   whole_samples written same =
       let count : length (take written (head ++ after)) ≡ length (head ++ after) = ap length same ∙ long in
       let cut = length-take written (head ++ after) in
       whole (sym (take_all written (head ++ after) (omega (arith, count, cut))) ∙ same)
 
   -- a writer accepted a prefix of the text, and is full
-  full_samples : (sent unsent : List ℕ) → text ≡ sent ++ unsent → head ++ after ≡ sent → HasSamples file width height after
+  full_samples : (sent unsent : List ℕ) → text ≡ sent ++ unsent → head ++ after ≡ sent → HasSamples rules file width height after
   full_samples sent unsent prefix full =
       let count = ap length prefix ∙ length-append sent unsent in
       let filled = ap length full in
@@ -94,30 +95,30 @@ IsBack name named before after final = (length final ≡ length before) × (name
 module _ (name named : ℕ) (before after final : List ℕ) (back : IsBack name named before after final) where
   -- the buffer has the samples after the whole text was accepted
   pub played :
-      RowsLaws → (file : List ℕ) (width height : ℕ) → 1 ≤ width → (head text : List ℕ) (written : ℕ) → IsRunText file width height (white width height) text
+      RowsLaws → (rules : Rules) (file : List ℕ) (width height : ℕ) → 1 ≤ width → (head text : List ℕ) (written : ℕ) → IsRunText rules file width height (white width height) text
       → length head ≡ length (header width height) → length before ≡ sample_count width height
-      → named ∷ take written (head ++ after) ≡ name ∷ text → HasSamples file width height final
-  played laws file width height some head text written run of_header of_samples holds =
+      → named ∷ take written (head ++ after) ≡ name ∷ text → HasSamples rules file width height final
+  played laws rules file width height some head text written run of_header of_samples holds =
       let same : name ≡ named = cc in
       let accepted : take written (head ++ after) ≡ text = cc in
       let is = back.1 same in
       let size = sym (ap length is) ∙ back.0 ∙ of_samples in
-      subst (λ (s : List ℕ). HasSamples file width height s) (sym is) (whole_samples laws file width height some head after text run of_header size written accepted)
+      subst (λ (s : List ℕ). HasSamples rules file width height s) (sym is) (whole_samples laws rules file width height some head after text run of_header size written accepted)
 
   -- the same if the writer is full
   pub filled :
-      RowsLaws → (file : List ℕ) (width height : ℕ) → 1 ≤ width → (head text sent unsent : List ℕ) (written : ℕ)
-      → IsRunText file width height (white width height) text → length head ≡ length (header width height) → length before ≡ sample_count width height
+      RowsLaws → (rules : Rules) (file : List ℕ) (width height : ℕ) → 1 ≤ width → (head text sent unsent : List ℕ) (written : ℕ)
+      → IsRunText rules file width height (white width height) text → length head ≡ length (header width height) → length before ≡ sample_count width height
       → text ≡ sent ++ unsent → written ≡ length head + length after → named ∷ take written (head ++ after) ≡ name ∷ sent
-      → HasSamples file width height final
-  filled laws file width height some head text sent unsent written run of_header of_samples prefix full holds =
+      → HasSamples rules file width height final
+  filled laws rules file width height some head text sent unsent written run of_header of_samples prefix full holds =
       let same : name ≡ named = cc in
       let accepted : take written (head ++ after) ≡ sent = cc in
       let is = back.1 same in
       let size = sym (ap length is) ∙ back.0 ∙ of_samples in
       let both = length-append head after in
       let all = sym (take_all written (head ++ after) (omega (arith, both, full))) ∙ accepted in
-      subst (λ (s : List ℕ). HasSamples file width height s) (sym is) (full_samples laws file width height some head after text run of_header size sent unsent prefix all)
+      subst (λ (s : List ℕ). HasSamples rules file width height s) (sym is) (full_samples laws rules file width height some head after text run of_header size sent unsent prefix all)
 
   -- the buffer is unchanged after nothing was accepted
   pub unplayed :

@@ -2,10 +2,11 @@
 use Rattle.std.specs.Prelude.{◌≡◌, ◌≤◌, ◌<◌, ◌⊎◌, ℕ, ◌*◌, Bool, true, false, List, None, Ok}
 use Rattle.mapping.specs.Image.{Image}
 use Rattle.draw_ops.specs.declared.fault.Fault.TheVariants.{SurfaceTooLarge}
+use Rattle.draw_ops.specs.declared.rules.Rules.{Rules}
 use Rattle.canvas.specs.Ppm.{raster}
 use Rattle.meta_headers.specs.File.{IsOpenedFrom}
 use Rattle.preflight_cert.specs.Answer.{IsAnswer, IsRejectedWith, accepted}
-use Rattle.preflight_cert.specs.CertificateReading.{CertificateValue, read_certificate}
+use Rattle.preflight_cert.specs.CertificateReading.{CertificateValue, read_certificate, rules_in}
 use Rattle.preflight_cert.specs.Preparation.{IsBoundFault, is_bound}
 use Rattle.preflight_cert.specs.Reached.{OpensBoth}
 use Rattle.preflight_cert.specs.Run.{Run, shown, white}
@@ -47,17 +48,17 @@ RejectsBounded true file certificate width height r = IsRejectedWith file certif
 abbrev pub RejectsPlay : List ℕ → List ℕ → ℕ → ℕ → Refusal → Type 0
 RejectsPlay file certificate width height r = RejectsBounded (is_bound width height) file certificate width height r
 
--- these are the samples of the image that the file's run makes on white
-pub record HasSamples (file : List ℕ) (width height : ℕ) (samples : List ℕ) : Type 0 where
+-- these are the samples of the image that the file's run under rules makes on white
+pub record HasSamples (rules : Rules) (file : List ℕ) (width height : ℕ) (samples : List ℕ) : Type 0 where
   pub image : Image
-  pub run : Run file width height (white width height) (shown image)
+  pub run : Run rules file width height (white width height) (shown image)
   pub is_raster : samples ≡ raster image.colours
 
 -- the file may be played, and the samples of its image are at the start of the buffer; the rest of it is unchanged
 pub record WritesSamples (file certificate : List ℕ) (width height count : ℕ) (old new : List ℕ) : Type 0 where
   pub playable : IsPlayable file certificate width height
   pub samples : List ℕ
-  pub of_run : HasSamples file width height samples
+  pub of_run : HasSamples (rules_in certificate) file width height samples
   pub counted : count ≡ sample_count width height
   pub copied : IsCopied samples count old new
 
@@ -82,7 +83,7 @@ EndsPlay file certificate width height old new OutOfMemory = LacksMemory file ce
 
 -- the same facts for a cleared file: of the samples, of the bound, and how playing it ends
 abbrev pub HasClearedSamples : Cleared → ℕ → ℕ → List ℕ → Type 0
-HasClearedSamples cleared width height samples = (file : List ℕ) → IsOpenedFrom file cleared.opened → HasSamples file width height samples
+HasClearedSamples cleared width height samples = (file : List ℕ) → IsOpenedFrom file cleared.opened → HasSamples cleared.opened.rules file width height samples
 
 pub record WritesCleared (cleared : Cleared) (width height count : ℕ) (old new : List ℕ) : Type 0 where
   pub within : IsWithinBound cleared.certificate width height

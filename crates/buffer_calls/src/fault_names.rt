@@ -10,7 +10,7 @@ use draw_ops::{Fault, RecordFault, table_law};
 
 /// The faults in the order of their codes, from code 1 on. The kind of record that two of them refer to doesn't change
 /// their names.
-const FAULTS: [Fault; 47] = [
+const FAULTS: [Fault; 48] = [
     Fault::TooLong,
     Fault::NotMetafile,
     Fault::ShortHeader,
@@ -58,6 +58,7 @@ const FAULTS: [Fault; 47] = [
     Fault::OutOfMemory,
     Fault::Record(RecordFault::NibTooWide),
     Fault::Record(RecordFault::NibTooSmall),
+    Fault::Record(RecordFault::EmfPlusAlone),
 ];
 
 /// The name of the fault with this code, spelled as its variant is. `None` exactly if no fault has the code.
@@ -66,7 +67,7 @@ pub fn fault_name(code: u32) -> Option<&'static str>
     ensures none { result ≡ None → IsNoCode code }
 {
     table_law();
-    if code == 0 || code > 47 {
+    if code == 0 || code > 48 {
         return None;
     }
     Some(fault_with(code).name())
@@ -75,7 +76,7 @@ pub fn fault_name(code: u32) -> Option<&'static str>
 /// The fault with this code.
 fn fault_with(code: u32) -> Fault
     requires first { 1 ≤ code }
-    requires last { code ≤ 47 }
+    requires last { code ≤ 48 }
     ensures { (fault_row result).code ≡ code }
 {
     FAULTS[code as usize - 1]

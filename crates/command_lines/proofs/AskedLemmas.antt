@@ -1,5 +1,5 @@
 -- The rows of the parsed command are the arguments that it was given.
-use Rattle.std.proofs.Common.{◌≡◌, ◌∙◌, ap, sym, subst, refl, Bool, List, [], ◌∷◌, false, true, Option, Some, None, IfSome, find, option_map, Box}
+use Rattle.std.proofs.Common.{◌≡◌, ◌∙◌, ap, codes, sym, subst, refl, Bool, List, [], ◌∷◌, false, true, Option, Some, None, IfSome, find, option_map, Box}
 use Rattle.std.proofs.lemmas.Slice.Eq.{bytes_eq-Decides}
 use Rattle.std.specs.Box.{box_value}
 use Rattle.std.specs.Str.{bytes_eq}
@@ -7,8 +7,12 @@ use Rattle.clap.specs.Words.{Row, Shape, Text}
 use Rattle.clap.specs.Simple.{subcommand_rows}
 use Rattle.clap.specs.declared.parser.matches.SubCommand.{SubCommand}
 use Rattle.clap.specs.declared.parser.matches.ArgMatches.TheViews.{out-SubCommand}
-use Rattle.command_lines.specs.CommandLine.{GivesAll, HoldsWords, IsAskedBy, IsRightCommand, command_name, metaplay_app}
-use Rattle.command_lines.specs.InfoWords.{IsOther}
+use Rattle.command_lines.specs.CommandLine.{AreRightArguments, HoldsWords, IsAskedBy, IsRightCommand, command_name, metaplay_app}
+use Rattle.command_lines.specs.Asked.{HoldsInfo, IsFound}
+use Rattle.command_lines.specs.InfoWords.{AsksInfoOnce, GivesNamesOnce, IsOther}
+use Rattle.command_lines.specs.RuleWords.{AreRightRules}
+use Rattle.command_lines.specs.declared.asked.Asked.{Asked}
+use Rattle.command_lines.specs.declared.asked.Asked.TheVariants.{Command, Info, Version}
 use Rattle.command_lines.specs.declared.asked.CommandLine.{CommandLine}
 
 same_inside : {A : Type 0} {x y : A} → Some x ≡ Some y → x ≡ y
@@ -54,13 +58,34 @@ module _ {Z : Type 0} where
 
   -- the command of this name was given proper arguments
   pub right_rows : (met : Option (Box SubCommand Z)) (name : Text) (shape : Shape) (rows : List Row) → IsRightCommand (subcommand_rows met) → name_met met ≡ Some name
-      → rows_met met ≡ Some rows → find (λ s. bytes_eq s.name name) metaplay_app.subs ≡ Some shape → GivesAll shape.rules rows
+      → rows_met met ≡ Some rows → find (λ s. bytes_eq s.name name) metaplay_app.subs ≡ Some shape → AreRightArguments shape rows
   right_rows met name shape rows right named has declared =
       let both : (name, rows) ≡ (right.name, right.given) = same_inside (sym (both_met met name rows named has) ∙ right.command) in
       let found : find (λ s. bytes_eq s.name right.name) metaplay_app.subs ≡ Some shape =
       subst (λ (n : Text). find (λ (s : Shape). bytes_eq s.name n) metaplay_app.subs ≡ Some shape) (ap (λ (p : Text × List Row). p.0) both) declared in
       let one : right.shape ≡ shape = same_inside (sym right.declared ∙ found) in
-      subst (λ (given : List Row). GivesAll shape.rules given) (sym (ap (λ (p : Text × List Row). p.1) both)) (subst (λ (s : Shape). GivesAll s.rules right.given) one right.allowed)
+      subst (AreRightArguments shape) (sym (ap (λ (p : Text × List Row). p.1) both)) (subst (λ (s : Shape). AreRightArguments s right.given) one right.allowed)
+
+  -- `info` with these rows was found
+  pub info_found : (met : Option (Box SubCommand Z)) (given : List Row) (asked : Asked) → name_met met ≡ Some (codes "info") → rows_met met ≡ Some given → HoldsInfo given asked
+      → IsFound (subcommand_rows met) asked
+  info_found met given (Command line) named rows holds = absurd holds
+  info_found met given Version named rows holds = absurd holds
+  info_found met given (Info names rules) named rows holds =
+      record { given = given; command = both_met met (codes "info") given named rows; are = holds.0; rule = holds.1 }
+
+  pub some_info_found : (met : Option (Box SubCommand Z)) (given : List Row) (r : Option Asked) → name_met met ≡ Some (codes "info") → rows_met met ≡ Some given
+      → IfSome r (HoldsInfo given) → IfSome r (IsFound (subcommand_rows met))
+  some_info_found met given None named rows holds = tt
+  some_info_found met given (Some asked) named rows holds = info_found met given asked named rows holds
+
+  -- it was given names as they should be, and rules
+  pub info_given : (met : Option (Box SubCommand Z)) (given : List Row) → name_met met ≡ Some (codes "info") → rows_met met ≡ Some given → AsksInfoOnce (subcommand_rows met)
+      → GivesNamesOnce given × AreRightRules given
+  info_given met given named rows once =
+      let both : (codes "info", given) ≡ (codes "info", once.asks.given) = same_inside (sym (both_met met (codes "info") given named rows) ∙ once.asks.command) in
+      subst (λ (rows : List Row). GivesNamesOnce rows × AreRightRules rows) (sym (ap (λ (p : Text × List Row). p.1) both))
+      (record { names = once.names; are = once.asks.are; once = once.once }, once.asks.rule.right)
 
   -- the parsed command has the right name
   name_right : (met : Option (Box SubCommand Z)) (right : IsRightCommand (subcommand_rows met)) → name_met met ≡ Some right.name

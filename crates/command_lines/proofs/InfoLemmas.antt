@@ -1,8 +1,8 @@
 -- What clap returns for `info` and one or more names.
-use Rattle.std.proofs.Common.{arith, inl, inr, leb, ap₂, fold, is_some, ◌≡◌, ◌∙◌, ◌&&◌, ◌≤◌, ◌++◌, ap, sym, subst, refl, Bool, List, [], ◌∷◌, Option, false, true, Some, None, codes, find, unwrap_or, map, length, string_bytes, String, ℕ}
+use Rattle.std.proofs.Common.{arith, inl, inr, leb, ap₂, fold, is_some, ◌≡◌, ◌∙◌, ◌&&◌, ◌≤◌, ◌+◌, ◌++◌, ap, sym, subst, refl, Bool, List, [], ◌∷◌, Option, false, true, Some, None, codes, map, length, string_bytes, String, ℕ}
 use Rattle.std.specs.List.{All, list_all}
 use Rattle.std.proofs.lemmas.Bool.{le-leb}
-use Rattle.std.proofs.lemmas.List.{append_assoc, append-nil, length-map}
+use Rattle.std.proofs.lemmas.List.{append_assoc, append-nil, length-append, length-map}
 use Rattle.std.specs.declared.alloc.Global.{Global}
 use Rattle.std.proofs.lemmas.List.Elements.{All-head, All-tail}
 use Rattle.clap.specs.Lexer.{usize_max}
@@ -11,12 +11,15 @@ use Rattle.clap.specs.Takes.{default_passes, entered_passes, is_valid, level_pas
 use Rattle.clap.specs.Walk.{Names, walked, Row, Rule, Text, Walk, all_of, finished, nothing_held, positional, rows_after, walk_from}
 use Rattle.clap.specs.Words.{subcommand_of, takes}
 use Rattle.clap.proofs.OnLiterals.{clap_on_literals}
+use Rattle.draw_ops.specs.declared.rules.Rules.{Rules}
 use Rattle.command_lines.specs.CommandLine.{GivesAll, IsPlainWord, IsRightCommand, files_rule, info_app, metaplay_app, texts_of}
 use Rattle.command_lines.specs.InfoWords.{AreCommandWords, AreInfoWords, AsksInfo, AsksInfoByWords, AsksInfoOnce, IsOther}
-use Rattle.command_lines.specs.RightWords.{AreOfKinds, ArgumentKind, name}
+use Rattle.command_lines.specs.RightWords.{AreOfKinds, ArgumentKind, exactly, name, rule_options}
+use Rattle.command_lines.specs.RuleWords.{AreRightRules, rules_asked}
 use Rattle.command_lines.specs.VersionWords.{AreVersionWords}
-use Rattle.command_lines.proofs.KindLemmas.{end_passes, horizontal_is, horizontal_kinds, kinds_end, kinds_pass, kinds_walked, rows_kinds}
-use Rattle.command_lines.proofs.TakenLemmas.{IsTaken, built_shape, of_usage, other_than_info, right_command, right_taken}
+use Rattle.command_lines.proofs.KindLemmas.{end_passes, kinds_end, kinds_pass, kinds_walked, rows_kinds}
+use Rattle.command_lines.proofs.TakenLemmas.{other_than_info, right_command, right_taken}
+use Rattle.command_lines.proofs.UsageLemmas.{IsTaken, all_of_list, built_shape, core_right, of_usage, print_right}
 
 -- the command as clap builds it
 abbrev pub info_shape : Shape
@@ -26,9 +29,17 @@ info_shape = built_shape (codes "info")
 abbrev pub name_kinds : List Text → List ArgumentKind
 name_kinds words = map (λ (word : Text). name) words
 
-pub are_names : (words : List Text) → All IsPlainWord words → AreOfKinds (name_kinds words) words
-are_names [] all = tt
-are_names (word ∷ words) all = (All-head IsPlainWord word words all, are_names words (All-tail IsPlainWord word words all))
+-- names, followed by exactly these words
+abbrev pub ended_kinds : List Text → List Text → List ArgumentKind
+ended_kinds words options = name_kinds words ++ map exactly options
+
+are_exactly : (options : List Text) → AreOfKinds (map exactly options) options
+are_exactly [] = tt
+are_exactly (word ∷ options) = (refl, are_exactly options)
+
+pub are_names : (words options : List Text) → All IsPlainWord words → AreOfKinds (ended_kinds words options) (words ++ options)
+are_names [] options all = are_exactly options
+are_names (word ∷ words) options all = (All-head IsPlainWord word words all, are_names words options (All-tail IsPlainWord word words all))
 
 -- where the walk stands after these names
 abbrev pub after_names : List Text → Walk
@@ -40,25 +51,102 @@ after_names names = record {
   stopped = None;
 }
 
-pub walked_names : (words names : List Text) → kinds_walked info_shape.rules (name_kinds words) (after_names names) words ≡ after_names (names ++ words)
-unfolding clap_on_literals
-walked_names [] names = ap after_names (sym (append-nil names))
-walked_names (word ∷ words) names = walked_names words (names ++ word ∷ []) ∙ ap after_names (append_assoc names (word ∷ []) words)
+-- where it stands after these options
+abbrev pub after_options : List Text → List Text → Walk
+after_options names options = kinds_walked info_shape.rules (map exactly options) (after_names names) options
 
-pub passed_names : (words names : List Text) → kinds_pass info_shape (name_kinds words) (after_names names) words ≡ true
+pub walked_names : (words options names : List Text) → kinds_walked info_shape.rules (ended_kinds words options) (after_names names) (words ++ options) ≡ after_options (names ++ words) options
 unfolding clap_on_literals
-passed_names [] names = refl
-passed_names (word ∷ words) names = passed_names words (names ++ word ∷ [])
+walked_names [] options names = ap (λ (all : List Text). after_options all options) (sym (append-nil names))
+walked_names (word ∷ words) options names =
+    walked_names words options (names ++ word ∷ []) ∙ ap (λ (all : List Text). after_options all options) (append_assoc names (word ∷ []) words)
 
--- what the walk holds after one or more names
-pub ended_names : (word : Text) (words : List Text) → kinds_end info_shape.rules (name_kinds (word ∷ words)) (word ∷ words) ≡ (after_names (word ∷ words)).held
+pub passed_names : (words options names : List Text) → kinds_pass info_shape (ended_kinds words options) (after_names names) (words ++ options)
+    ≡ kinds_pass info_shape (map exactly options) (after_names (names ++ words)) options
 unfolding clap_on_literals
-ended_names word words = ap (λ (w : Walk). w.held) (walked_names words (word ∷ []))
+passed_names [] options names = ap (λ (all : List Text). kinds_pass info_shape (map exactly options) (after_names all) options) (sym (append-nil names))
+passed_names (word ∷ words) options names =
+    passed_names words options (names ++ word ∷ [])
+    ∙ ap (λ (all : List Text). kinds_pass info_shape (map exactly options) (after_names all) options) (append_assoc names (word ∷ []) words)
 
--- the command is given these names, in order
-pub given_names : (word : Text) (words : List Text) → all_of (codes "FILE") (finished info_shape.rules (after_names (word ∷ words)).held) ≡ Some (word ∷ words)
+-- what the walk holds after one or more names and these options
+pub ended_names : (word : Text) (words options : List Text) → kinds_end info_shape.rules (ended_kinds (word ∷ words) options) (word ∷ (words ++ options))
+    ≡ (after_options (word ∷ words) options).held
 unfolding clap_on_literals
-given_names word words = refl
+ended_names word words options = ap (λ (w : Walk). w.held) (walked_names words options (word ∷ []))
+
+-- what `info` is given with these names and options
+abbrev pub rows_given : List Text → List Text → List Row
+rows_given names options = finished info_shape.rules (after_options names options).held
+
+-- clap's tests of these names
+abbrev pub names_pass : List Text → Bool
+names_pass names = leb 1 (length names) && (leb (length names) usize_max && values_pass files_rule names)
+
+-- clap accepts these options after one or more names, and `info` is given the names, and rules as they should be
+pub record AreTaken (options : List Text) : Type 0 where
+  pub pass : (word : Text) (words : List Text) → names_pass (word ∷ words) ≡ true
+      → end_passes info_shape (kinds_pass info_shape (map exactly options) (after_names (word ∷ words)) options) (after_options (word ∷ words) options).held ≡ true
+  pub named : (word : Text) (words : List Text) → all_of (codes "FILE") (rows_given (word ∷ words) options) ≡ Some (word ∷ words)
+  pub gives : (word : Text) (words : List Text) → GivesAll info_app.top.rules (rows_given (word ∷ words) options)
+  pub right : (word : Text) (words : List Text) → AreRightRules (rows_given (word ∷ words) options)
+
+none_taken : AreTaken ([])
+unfolding clap_on_literals
+none_taken = record {
+  pass = λ word words pass. ap (λ (v : Bool). v && true) pass;
+  named = λ word words. refl;
+  gives = λ word words. (refl, (tt, (tt, tt)));
+  right = λ word words. core_right _ refl refl refl;
+}
+
+core_taken : AreTaken (codes "--profile" ∷ codes "core" ∷ [])
+unfolding clap_on_literals
+core_taken = record {
+  pass = λ word words pass. ap (λ (v : Bool). ((v && true) && true) && true) pass;
+  named = λ word words. refl;
+  gives = λ word words. (refl, (tt, (tt, tt)));
+  right = λ word words. core_right _ refl refl refl;
+}
+
+print_taken : AreTaken (codes "--profile" ∷ codes "print" ∷ [])
+unfolding clap_on_literals
+print_taken = record {
+  pass = λ word words pass. ap (λ (v : Bool). ((v && true) && true) && true) pass;
+  named = λ word words. refl;
+  gives = λ word words. (refl, (tt, (tt, tt)));
+  right = λ word words. print_right _ refl refl refl;
+}
+
+held_deletion_taken : AreTaken (codes "--profile" ∷ codes "print" ∷ codes "--allow" ∷ codes "held-deletion" ∷ [])
+unfolding clap_on_literals
+held_deletion_taken = record {
+  pass = λ word words pass. ap (λ (v : Bool). ((v && true) && true) && true) pass;
+  named = λ word words. refl;
+  gives = λ word words. (refl, (tt, (tt, tt)));
+  right = λ word words. print_right _ refl refl refl;
+}
+
+emf_plus_taken : AreTaken (codes "--profile" ∷ codes "print" ∷ codes "--allow" ∷ codes "emf-plus" ∷ [])
+unfolding clap_on_literals
+emf_plus_taken = record {
+  pass = λ word words pass. ap (λ (v : Bool). ((v && true) && true) && true) pass;
+  named = λ word words. refl;
+  gives = λ word words. (refl, (tt, (tt, tt)));
+  right = λ word words. print_right _ refl refl refl;
+}
+
+both_taken : AreTaken (codes "--profile" ∷ codes "print" ∷ codes "--allow" ∷ codes "held-deletion" ∷ codes "--allow" ∷ codes "emf-plus" ∷ [])
+unfolding clap_on_literals
+both_taken = record {
+  pass = λ word words pass. ap (λ (v : Bool). ((v && true) && true) && true) pass;
+  named = λ word words. refl;
+  gives = λ word words. (refl, (tt, (tt, tt)));
+  right = λ word words. print_right _ refl refl refl;
+}
+
+options_taken : All AreTaken rule_options
+options_taken = all_of_list AreTaken rule_options (none_taken, (core_taken, (print_taken, (held_deletion_taken, (emf_plus_taken, (both_taken, tt))))))
 
 -- after the command's name, all words are the command's
 pub words_stay : (rules : List Rule) (names : Names) (w : Walk) (command : Text) (words before : List Text)
@@ -67,12 +155,6 @@ unfolding walked
 words_stay rules names w command [] before = ap (λ (all : List Text). record w { stopped = Some (command, all) }) (sym (append-nil before))
 words_stay rules names w command (word ∷ words) before =
     words_stay rules names w command words (before ++ word ∷ []) ∙ ap (λ (all : List Text). record w { stopped = Some (command, all) }) (append_assoc before (word ∷ []) words)
-
--- any text may be a name
-pub names_pass : (words : List Text) → values_pass files_rule words ≡ true
-unfolding clap_on_literals
-names_pass [] = refl
-names_pass (word ∷ words) = names_pass words
 
 -- the program's own level
 abbrev pub top : Shape
@@ -104,33 +186,60 @@ info_enters program words passes =
     (words_pass top top_names (walk_from nothing_held) (codes "info") words []) (top_walked words)
     ∙ ap (λ (b : Bool). b && true) passes
 
--- clap accepts one or more names
-pub info_taken : (word : Text) (words : List Text) → All IsPlainWord (word ∷ words) → length (word ∷ words) ≤ usize_max → IsTaken (codes "info") (word ∷ words)
+-- any text may be a name
+values_taken : (words : List Text) → values_pass files_rule words ≡ true
 unfolding clap_on_literals
-info_taken word words all few =
-    of_usage (codes "info") info_app.top (name_kinds (word ∷ words)) (word ∷ words) (are_names (word ∷ words) all) refl
-    (λ program passes. info_enters program (word ∷ words) passes) (λ program. info_met program (word ∷ words))
-    (ap₂ (λ (pass : Bool) (w : Walk). end_passes info_shape pass w.held) (passed_names words (word ∷ [])) (walked_names words (word ∷ []))
-    ∙ (ap (λ (some : Bool). (some && (leb (length (word ∷ words)) usize_max && values_pass files_rule (word ∷ words))) && true) (le-leb 1 (length (word ∷ words)) (omega arith))
-    ∙ ap₂ (λ (within pass : Bool). (within && pass) && true) (le-leb (length (word ∷ words)) usize_max few) (names_pass (word ∷ words))))
-    (subst (GivesAll info_app.top.rules) (sym (ap (finished info_shape.rules) (ended_names word words))) (refl, tt))
+values_taken [] = refl
+values_taken (word ∷ words) = values_taken words
+
+names_taken : (word : Text) (words : List Text) → length (word ∷ words) ≤ usize_max → names_pass (word ∷ words) ≡ true
+names_taken word words few =
+    ap (λ (some : Bool). some && (leb (length (word ∷ words)) usize_max && values_pass files_rule (word ∷ words))) (le-leb 1 (length (word ∷ words)) (omega arith))
+    ∙ ap₂ (λ (within pass : Bool). within && pass) (le-leb (length (word ∷ words)) usize_max few) (values_taken (word ∷ words))
+
+-- clap accepts one or more names with such options
+pub info_taken : (word : Text) (words options : List Text) → AreTaken options → All IsPlainWord (word ∷ words) → length (word ∷ words) ≤ usize_max
+    → IsTaken (codes "info") (word ∷ (words ++ options))
+unfolding clap_on_literals
+info_taken word words options taken all few =
+    let given = ap (finished info_shape.rules) (ended_names word words options) in
+    of_usage (codes "info") info_app.top (ended_kinds (word ∷ words) options) (word ∷ (words ++ options)) (are_names (word ∷ words) options all) refl
+    (λ program passes. info_enters program (word ∷ (words ++ options)) passes) (λ program. info_met program (word ∷ (words ++ options)))
+    (ap₂ (λ (pass : Bool) (w : Walk). end_passes info_shape pass w.held) (passed_names words options (word ∷ [])) (walked_names words options (word ∷ []))
+    ∙ taken.pass word words (names_taken word words few))
+    (subst (GivesAll info_app.top.rules) (sym given) (taken.gives word words)) (subst AreRightRules (sym given) (taken.right word words))
+
+-- the options of right words for `info`
+right_options : (words : List Text) (right : AreInfoWords words) → AreTaken right.options
+right_options words right =
+    let found = right.right in
+    subst AreTaken found.4 (subst AreTaken found.3 (options_taken found.0 found.1 found.2))
 
 -- clap accepts right words for `info`, and the command is asked about the names
 pub info_words_taken : (words : List Text) → AreInfoWords words → length words ≤ usize_max → takes metaplay_app words ≡ true
 info_words_taken words right few =
-    let names = right.name ∷ right.names in
-    let within : length (right.program ∷ codes "info" ∷ names) ≤ usize_max = subst (λ (l : List Text). length l ≤ usize_max) right.are few in
+    let all = right.names ++ right.options in
+    let within : length (right.program ∷ codes "info" ∷ right.name ∷ all) ≤ usize_max = subst (λ (l : List Text). length l ≤ usize_max) right.are few in
+    let parts : length all ≡ length right.names + length right.options = length-append right.names right.options in
     subst (λ (l : List Text). takes metaplay_app l ≡ true) (sym right.are)
-    ((info_taken right.name right.names right.plain (omega (arith, within))).taken right.program)
+    ((info_taken right.name right.names right.options (right_options words right) right.plain (omega (arith, within, parts))).taken right.program)
 
-pub info_words_asked : (words : List Text) (right : AreInfoWords words) → AsksInfoByWords words (right.name ∷ right.names)
+-- the rules that they ask for
+abbrev pub info_rules : (words : List Text) → AreInfoWords words → Rules
+info_rules words right = rules_asked (rows_given (right.name ∷ right.names) right.options)
+
+pub info_words_asked : (words : List Text) (right : AreInfoWords words) → AsksInfoByWords words (right.name ∷ right.names) (info_rules words right)
 info_words_asked words right =
     let names = right.name ∷ right.names in
-    subst (λ (l : List Text). AsksInfoByWords l names) (sym right.are) (record {
-      given = finished info_shape.rules (after_names names).held;
-      command = info_met right.program names ∙ ap (λ (rows : List Row). Some (codes "info", rows)) (rows_kinds info_shape.rules (name_kinds names) names (are_names names right.plain)
-          ∙ ap (finished info_shape.rules) (ended_names right.name right.names));
-      are = given_names right.name right.names;
+    let options = right.options in
+    let taken = right_options words right in
+    subst (λ (l : List Text). AsksInfoByWords l names (info_rules words right)) (sym right.are) (record {
+      given = rows_given names options;
+      command = info_met right.program (right.name ∷ (right.names ++ options))
+          ∙ ap (λ (rows : List Row). Some (codes "info", rows)) (rows_kinds info_shape.rules (ended_kinds names options) (names ++ options) (are_names names options right.plain)
+          ∙ ap (finished info_shape.rules) (ended_names right.name right.names options));
+      are = taken.named right.name right.names;
+      rule = record { right = taken.right right.name right.names; are = refl };
     })
 
 -- clap accepts words that are right for a command
@@ -145,7 +254,13 @@ pub command_words_found : (words : List Text) (met : Option (Text × List Row)) 
 command_words_found words met found is command info other (inl right) =
     command (subst IsRightCommand (sym is) (right_command words right)) (subst (IsOther (codes "info")) (sym is) (other_than_info words right))
 command_words_found words met found is command info other (inr (inl right)) =
-    info (record { names = right.name ∷ right.names; asks = subst (λ (rows : Option (Text × List Row)). AsksInfo rows (right.name ∷ right.names)) (sym is) (info_words_asked words right); once = right.once })
+    let rules = info_rules words right in
+    info (record {
+      names = right.name ∷ right.names;
+      rules = rules;
+      asks = subst (λ (rows : Option (Text × List Row)). AsksInfo rows (right.name ∷ right.names) rules) (sym is) (info_words_asked words right);
+      once = right.once;
+    })
 command_words_found words met found is command info other (inr (inr version)) = absurd (other version)
 
 -- there are as many texts as words

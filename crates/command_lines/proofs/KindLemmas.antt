@@ -7,7 +7,7 @@ use Rattle.clap.specs.Simple.{Shape}
 use Rattle.clap.specs.Takes.{default_passes, is_valid, level_passes, settle_passes, step_passes, turn_passes, walk_passes, word_passes}
 use Rattle.clap.specs.Walk.{Held, Rule, Step, Text, Waiting, Walk, after_step, finished, idle, nothing_held, option, plain_word, positional, rows_after, subcommand_met, value, walk_from, walked, walked_from, word_met}
 use Rattle.command_lines.specs.CommandLine.{IsPlainWord}
-use Rattle.command_lines.specs.RightWords.{AreOfKinds, ArgumentKind, IsOfKind, bands, fit, name, side}
+use Rattle.command_lines.specs.RightWords.{AreOfKinds, ArgumentKind, IsOfKind, bands, exactly, fit, name, side}
 use Rattle.command_lines.proofs.SideLemmas.{plain_side}
 
 pub no_flags : (byte : ℕ) (rest : Text) → (byte ≡ 45 → ⊥) → short_of (byte ∷ rest) ≡ None
@@ -18,7 +18,7 @@ abbrev plain_met : List Rule → Bool → Waiting → Text → Held → Held × 
 plain_met c true waiting word h = (h, value)
 plain_met c false waiting word h = plain_word c waiting word h
 
-no_command : (waiting : Waiting) (word : Text) → subcommand_met [] waiting word ≡ None
+pub no_command : (waiting : Waiting) (word : Text) → subcommand_met [] waiting word ≡ None
 no_command idle word = refl
 no_command (option id) word = refl
 no_command positional word = refl
@@ -68,24 +68,28 @@ kind_walked c name w word = plain_from c w.stopped w word
 kind_walked c side w word = plain_from c w.stopped w word
 kind_walked c bands w word = walked c [] w (codes "--bands")
 kind_walked c fit w word = walked c [] w (codes "--fit")
+kind_walked c (exactly text) w word = walked c [] w text
 
 abbrev kind_passes : Shape → ArgumentKind → Walk → Text → Bool
 kind_passes s name w word = plain_passes s w word
 kind_passes s side w word = plain_passes s w word
 kind_passes s bands w word = turn_passes s [] w (codes "--bands")
 kind_passes s fit w word = turn_passes s [] w (codes "--fit")
+kind_passes s (exactly text) w word = turn_passes s [] w text
 
 walked_kind : (c : List Rule) (kind : ArgumentKind) (w : Walk) (word : Text) → IsOfKind kind word → walked c [] w word ≡ kind_walked c kind w word
 walked_kind c name w word is = walked_plain c w word is
 walked_kind c side w word is = walked_plain c w word (plain_side word is)
 walked_kind c bands w word is = ap (walked c [] w) is
 walked_kind c fit w word is = ap (walked c [] w) is
+walked_kind c (exactly text) w word is = ap (walked c [] w) is
 
 turn_kind : (s : Shape) (kind : ArgumentKind) (w : Walk) (word : Text) → IsOfKind kind word → turn_passes s [] w word ≡ kind_passes s kind w word
 turn_kind s name w word is = turn_plain s w word is
 turn_kind s side w word is = turn_plain s w word (plain_side word is)
 turn_kind s bands w word is = ap (turn_passes s [] w) is
 turn_kind s fit w word is = ap (turn_passes s [] w) is
+turn_kind s (exactly text) w word is = ap (turn_passes s [] w) is
 
 -- words of some kinds, one by one
 abbrev pub kinds_walked : List Rule → List ArgumentKind → Walk → List Text → Walk

@@ -1,7 +1,15 @@
 pub mod AppLemmas
 pub mod AskedLemmas
+pub mod ConflictLemmas
 pub mod InfoLemmas
 pub mod KindLemmas
+pub mod OpenLemmas
+pub mod ProfileLemmas
+pub mod RowLemmas
+pub mod RuledLemmas
 pub mod SideLemmas
 pub mod TakenLemmas
+pub mod TwiceLemmas
+pub mod UsageLemmas
 pub mod WordLemmas
+pub mod WrongLemmas

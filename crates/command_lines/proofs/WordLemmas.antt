@@ -13,6 +13,7 @@ use Rattle.command_lines.specs.InfoWords.{AsksInfoByWords, names_in}
 use Rattle.command_lines.specs.declared.asked.Asked.{Asked}
 use Rattle.command_lines.specs.declared.asked.Asked.TheVariants.{Command, Info, Version}
 use Rattle.command_lines.specs.RightWords as kind
+use Rattle.command_lines.specs.RuleWords.{rules_asked}
 use Rattle.command_lines.proofs.KindLemmas.{kinds_end, rows_kinds}
 use Rattle.command_lines.proofs.SideLemmas.{no_minus}
 
@@ -81,14 +82,15 @@ shown_rows program file wide high plain_file plain_wide plain_high =
     first_word program file wide high ∙ ap (λ (r : List Row). Some (codes "show", r)) (other_words file wide high plain_file plain_wide plain_high)
 
 given_words : (line : CommandLine) (program file wide high : Text) → IsPlainWord file → IsPlainWord wide → IsPlainWord high → IsAskedByWords (program ∷ codes "show" ∷ file ∷ wide ∷ high ∷ []) line → HasWords file wide high line
-given_words (Show name width height fit) program file wide high plain_file plain_wide plain_high asked =
+given_words (Show name rules width height fit) program file wide high plain_file plain_wide plain_high asked =
     let rows = shown_rows program file wide high plain_file plain_wide plain_high in
     let same = same_rows _ _ _ _ _ asked.command rows in
     let unset : one_of (codes "fit") asked.given ≡ Some (codes "false") = ap (one_of (codes "fit")) same in (
-      by_rows _ (given_all file wide high) asked.given file wide high name.now width height plain_wide plain_high rows refl refl refl asked.command asked.gives.0 asked.gives.1,
-      asked.gives.2.unset unset,
+      by_rows _ (given_all file wide high) asked.given file wide high name.now width height plain_wide plain_high rows refl refl refl asked.command asked.gives.0 asked.gives.2,
+      asked.gives.3.unset unset,
+      asked.gives.1.are ∙ ap rules_asked same,
     )
-given_words (Prepare name width height output) program file wide high plain_file plain_wide plain_high asked =
+given_words (Prepare name rules width height output) program file wide high plain_file plain_wide plain_high asked =
     let rows = shown_rows program file wide high plain_file plain_wide plain_high in
     let bad : is_byte 115 112 = one_name _ _ _ _ _ rows asked.command in absurd (omega (arith, bad))
 given_words (Check name certificate) program file wide high plain_file plain_wide plain_high asked =
@@ -100,7 +102,7 @@ given_words (Play name certificate width height bands fit) program file wide hig
 given_words (Over name certificate image) program file wide high plain_file plain_wide plain_high asked =
     let rows = shown_rows program file wide high plain_file plain_wide plain_high in
     let bad : is_byte 115 111 = one_name _ _ _ _ _ rows asked.command in absurd (omega (arith, bad))
-given_words (ListLine name) program file wide high plain_file plain_wide plain_high asked =
+given_words (ListLine name rules) program file wide high plain_file plain_wide plain_high asked =
     let rows = shown_rows program file wide high plain_file plain_wide plain_high in
     let bad : is_byte 115 108 = one_name _ _ _ _ _ rows asked.command in absurd (omega (arith, bad))
 
@@ -108,10 +110,10 @@ given_words (ListLine name) program file wide high plain_file plain_wide plain_h
 pub plain_words : (words : List Text) (asked : Asked) → IsAskedFor words asked → HasPlainWords words asked
 plain_words words (Command line) asked program file wide high plain_file plain_wide plain_high is =
     given_words line program file wide high plain_file plain_wide plain_high (subst (λ (l : List Text). IsAskedByWords l line) is asked)
-plain_words words (Info names) asked program file wide high plain_file plain_wide plain_high is =
+plain_words words (Info names rules) asked program file wide high plain_file plain_wide plain_high is =
     let rows = shown_rows program file wide high plain_file plain_wide plain_high in
-    let about : AsksInfoByWords (program ∷ codes "show" ∷ file ∷ wide ∷ high ∷ []) (names_in names.items) =
-    subst (λ (l : List Text). AsksInfoByWords l (names_in names.items)) is asked in
+    let about : AsksInfoByWords (program ∷ codes "show" ∷ file ∷ wide ∷ high ∷ []) (names_in names.items) rules =
+    subst (λ (l : List Text). AsksInfoByWords l (names_in names.items) rules) is asked in
     let bad : is_byte 115 105 = one_name _ _ _ _ _ rows about.command in absurd (omega (arith, bad))
 plain_words words Version asked program file wide high plain_file plain_wide plain_high is =
     let five : program ∷ codes "show" ∷ file ∷ wide ∷ high ∷ [] ≡ asked.program ∷ asked.word ∷ [] = sym is ∙ asked.are in
@@ -120,5 +122,5 @@ plain_words words Version asked program file wide high plain_file plain_wide pla
 -- what is found is what is asked for
 pub asked_for : (words : List Text) (asked : Asked) → IsFound (subcommand_of metaplay_app words) asked → IsAskedFor words asked
 asked_for words (Command line) found = found
-asked_for words (Info names) found = found
+asked_for words (Info names rules) found = found
 asked_for words Version found = absurd found

@@ -9,7 +9,9 @@ use Rattle.clap.specs.Words.{App, Row, Rule, Shape, Text, first_of, new_app, new
 use Rattle.clap.specs.declared.builder.ArgAction.TheVariants.{Append, Set, SetTrue}
 use Rattle.clap.specs.declared.builder.value_parser.ValueParser.{ValueParser}
 use Rattle.clap.specs.declared.builder.value_parser.ValueParser.TheVariants.{Signed}
+use Rattle.draw_ops.specs.RuleSets.{core_rules}
 use Rattle.command_lines.specs.Dimensions.{HasDimensions}
+use Rattle.command_lines.specs.RuleWords.{AreRightRules, GivesRules}
 use Rattle.command_lines.specs.declared.asked.CommandLine.{CommandLine}
 use Rattle.command_lines.specs.declared.asked.CommandLine.TheVariants.{Check, List as ListLine, Over, Play, Prepare, Show}
 
@@ -37,13 +39,25 @@ with_dimensions app = with_rule (with_rule app (side_rule (codes "W"))) (side_ru
 abbrev pub fit_rule : Rule
 fit_rule = record (new_rule (codes "fit")) { long = Some (codes "fit"); action = Some SetTrue }
 
--- show FILE W H [--fit]
-abbrev pub show_app : App
-show_app = with_rule (with_dimensions (file_app (codes "show"))) fit_rule
+-- --profile PROFILE, which is optional
+abbrev pub profile_rule : Rule
+profile_rule = record (new_rule (codes "PROFILE")) { long = Some (codes "profile"); action = Some Set }
 
--- prepare FILE W H OUT
+-- --allow NAME, any number of times
+abbrev pub allow_rule : Rule
+allow_rule = record (new_rule (codes "NAME")) { long = Some (codes "allow"); action = Some Append }
+
+-- a command followed by --profile and --allow
+abbrev pub with_rules : App → App
+with_rules app = with_rule (with_rule app profile_rule) allow_rule
+
+-- show FILE W H [--fit] [--profile PROFILE] [--allow NAME]...
+abbrev pub show_app : App
+show_app = with_rules (with_rule (with_dimensions (file_app (codes "show"))) fit_rule)
+
+-- prepare FILE W H OUT [--profile PROFILE] [--allow NAME]...
 abbrev pub prepare_app : App
-prepare_app = with_rule (with_dimensions (file_app (codes "prepare"))) (name_rule (codes "OUT"))
+prepare_app = with_rules (with_rule (with_dimensions (file_app (codes "prepare"))) (name_rule (codes "OUT")))
 
 -- check FILE CERT
 abbrev pub check_app : App
@@ -61,17 +75,17 @@ play_app = with_rule (with_rule (with_dimensions (with_rule (file_app (codes "pl
 abbrev pub over_app : App
 over_app = with_rule (with_rule (file_app (codes "over")) (name_rule (codes "CERT"))) (name_rule (codes "IMAGE"))
 
--- list FILE
+-- list FILE [--profile PROFILE] [--allow NAME]...
 abbrev pub list_app : App
-list_app = file_app (codes "list")
+list_app = with_rules (file_app (codes "list"))
 
 -- FILE..., one or more names
 abbrev pub files_rule : Rule
 files_rule = record (name_rule (codes "FILE")) { action = Some Append; range = Some (record { start_inclusive = 1; end_inclusive = usize_max }) }
 
--- info FILE...
+-- info FILE... [--profile PROFILE] [--allow NAME]...
 abbrev pub info_app : App
-info_app = with_rule (new_app (codes "info")) files_rule
+info_app = with_rules (with_rule (new_app (codes "info")) files_rule)
 
 -- metaplay without its commands; a command is required
 abbrev pub bare_app : App
@@ -119,26 +133,28 @@ GivesName given id name = first_of id given ≡ Some name
 
 -- the name of a command line's command
 abbrev pub command_name : CommandLine → Text
-command_name (Show file width height fit) = codes "show"
-command_name (Prepare file width height output) = codes "prepare"
+command_name (Show file rules width height fit) = codes "show"
+command_name (Prepare file rules width height output) = codes "prepare"
 command_name (Check file certificate) = codes "check"
 command_name (Play file certificate width height bands fit) = codes "play"
 command_name (Over file certificate image) = codes "over"
-command_name (ListLine file) = codes "list"
+command_name (ListLine file rules) = codes "list"
 
--- a command line has the names and numbers of the given arguments
+-- a command line has the names, the numbers and the rules of the given arguments
 abbrev pub HoldsWords : List Row → CommandLine → Type 0
-HoldsWords given (Show file width height fit) =
-    GivesName given (codes "FILE") file.now × GivesDimensions given width height × GivesFlag given (codes "fit") fit
-HoldsWords given (Prepare file width height output) =
-    GivesName given (codes "FILE") file.now × GivesDimensions given width height × GivesName given (codes "OUT") output.now
+HoldsWords given (Show file rules width height fit) =
+    GivesName given (codes "FILE") file.now × GivesRules given rules × GivesDimensions given width height
+    × GivesFlag given (codes "fit") fit
+HoldsWords given (Prepare file rules width height output) =
+    GivesName given (codes "FILE") file.now × GivesRules given rules × GivesDimensions given width height
+    × GivesName given (codes "OUT") output.now
 HoldsWords given (Check file certificate) = GivesName given (codes "FILE") file.now × GivesName given (codes "CERT") certificate.now
 HoldsWords given (Play file certificate width height bands fit) =
     GivesName given (codes "FILE") file.now × GivesName given (codes "CERT") certificate.now × GivesDimensions given width height
     × GivesBands given bands × GivesFlag given (codes "fit") fit
 HoldsWords given (Over file certificate image) =
     GivesName given (codes "FILE") file.now × GivesName given (codes "CERT") certificate.now × GivesName given (codes "IMAGE") image.now
-HoldsWords given (ListLine file) = GivesName given (codes "FILE") file.now
+HoldsWords given (ListLine file rules) = GivesName given (codes "FILE") file.now × GivesRules given rules
 
 -- the parsed command is that of the command line, and has its arguments
 pub record IsAskedBy (met : Option (Text × List Row)) (line : CommandLine) : Type 0 where
@@ -165,9 +181,10 @@ pub record AreOfWords (file wide high : Text) (name : Text) (width height : ℕ)
   pub wide_reads : width ≡ number_of wide
   pub high_reads : height ≡ number_of high
 
--- the command line is `show` with this file name and the numbers of these texts, without `--fit`
+-- the command line is `show` with this file name and the numbers of these texts, by the core profile, without `--fit`
 abbrev pub HasWords : Text → Text → Text → CommandLine → Type 0
-HasWords file wide high (Show name width height fit) = AreOfWords file wide high name.now width height × (fit ≡ false)
+HasWords file wide high (Show name rules width height fit) =
+    AreOfWords file wide high name.now width height × (fit ≡ false) × (rules ≡ core_rules)
 HasWords file wide high line = ⊥
 
 -- the text is a decimal numeral from 1 to 8,192, without a sign
@@ -198,6 +215,11 @@ abbrev pub GivesAll : List Rule → List Row → Type 0
 GivesAll [] given = Unit {0}
 GivesAll (rule ∷ rules) given = GivesArgument rule given × GivesAll rules given
 
+-- the arguments of a command were given as they should be, those for the rules too
+pub record AreRightArguments (shape : Shape) (given : List Row) : Type 0 where
+  pub all : GivesAll shape.rules given
+  pub rules : AreRightRules given
+
 -- the parsed command is one of metaplay's, and its arguments were given as they should be
 pub record IsRightCommand (met : Option (Text × List Row)) : Type 0 where
   pub name : Text
@@ -205,7 +227,7 @@ pub record IsRightCommand (met : Option (Text × List Row)) : Type 0 where
   pub shape : Shape
   pub command : met ≡ Some (name, given)
   pub declared : find (λ s. bytes_eq s.name name) metaplay_app.subs ≡ Some shape
-  pub allowed : GivesAll shape.rules given
+  pub allowed : AreRightArguments shape given
 
 -- a statement holds for a command line that the words give, with valid sizes
 pub record HoldsOfAsked (words : List Text) (holds : CommandLine → Type 0) : Type 0 where

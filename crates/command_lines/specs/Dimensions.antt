@@ -6,12 +6,12 @@ use Rattle.command_lines.specs.declared.asked.CommandLine.TheVariants.{Check, Li
 
 -- the name of the metafile on the command line
 abbrev pub file_of : CommandLine → List ℕ
-file_of (Show file width height fit) = file.now
-file_of (Prepare file width height output) = file.now
+file_of (Show file rules width height fit) = file.now
+file_of (Prepare file rules width height output) = file.now
 file_of (Check file certificate) = file.now
 file_of (Play file certificate width height bands fit) = file.now
 file_of (Over file certificate image) = file.now
-file_of (ListLine file) = file.now
+file_of (ListLine file rules) = file.now
 
 -- a width and a height that a surface may have
 pub record AreDimensions (width height : ℕ) : Type 0 where
@@ -20,12 +20,12 @@ pub record AreDimensions (width height : ℕ) : Type 0 where
 
 -- the width and height on the command line are valid, and so is the number of rows in a band
 abbrev pub HasDimensions : CommandLine → Type 0
-HasDimensions (Show file width height fit) = AreDimensions width height
-HasDimensions (Prepare file width height output) = AreDimensions width height
+HasDimensions (Show file rules width height fit) = AreDimensions width height
+HasDimensions (Prepare file rules width height output) = AreDimensions width height
 HasDimensions (Check file certificate) = Unit
 HasDimensions (Play file certificate width height bands fit) = AreDimensions width height × IfSome bands IsSurfaceSide
 HasDimensions (Over file certificate image) = Unit
-HasDimensions (ListLine file) = Unit
+HasDimensions (ListLine file rules) = Unit
 
 -- a statement holds for a command line with valid sizes
 pub record HoldsOfSome (holds : CommandLine → Type 0) : Type 0 where

@@ -4,4 +4,7 @@ pub mod CommandLine
 pub mod Dimensions
 pub mod InfoWords
 pub mod RightWords
+pub mod RuleWords
 pub mod VersionWords
+pub mod WrongRules
+pub mod WrongWords

@@ -1,5 +1,7 @@
 //! What a command line can ask for.
 
+use draw_ops::Rules;
+
 /// The word that stands for standard input.
 pub const STANDARD_INPUT: &str = "stdin";
 
@@ -8,19 +10,21 @@ pub const STANDARD_INPUT: &str = "stdin";
 pub enum Asked<'a> {
     /// A command on one file.
     Command(CommandLine<'a>),
-    /// Information about the files with these names, of which at most one is the word `stdin`.
-    Info(Vec<&'a str>),
+    /// Information about the files with these names, of which at most one is the word `stdin`, by these rules.
+    Info { names: Vec<&'a str>, rules: Rules },
     /// The program's version.
     Version,
 }
 
-/// A command with its arguments. A file name is the name of a file; FILE may also be the word `stdin`.
+/// A command with its arguments. A file name is the name of a file; FILE may also be the word `stdin`. The commands that
+/// take no certificate are given the rules that they go by.
 #[derive(Clone, Copy, Debug, PartialEq, Eq)]
 pub enum CommandLine<'a> {
     /// Play a file on a surface of this size in pixels, or with `fit` on the largest one within it that has the
     /// proportion of the file's frame.
     Show {
         file: &'a str,
+        rules: Rules,
         width: u32,
         height: u32,
         fit: bool,
@@ -28,6 +32,7 @@ pub enum CommandLine<'a> {
     /// Prepare a file's certificate for surfaces of at most this size, and write it to a file.
     Prepare {
         file: &'a str,
+        rules: Rules,
         width: u32,
         height: u32,
         output: &'a str,
@@ -56,5 +61,6 @@ pub enum CommandLine<'a> {
     /// List a file's records.
     List {
         file: &'a str,
+        rules: Rules,
     },
 }

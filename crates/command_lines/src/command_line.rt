@@ -3,21 +3,22 @@
 ghost use Rattle.std.specs.Prelude.{◌≡◌, ◌≤◌, ◌↔◌, IfErr, IfOk, IfSome, IsSome, Ok, Some, codes, count_by, length, true};
 ghost use Rattle.std.specs.Str.{bytes_eq};
 ghost use Rattle.clap.specs.Lexer.{usize_max};
-ghost use Rattle.clap.specs.Words.{all_of, first_of, found_of, kind_of, rows_of, subcommand_rows_of};
-ghost use Rattle.mapping.specs.Limits.{IsSurfaceSide};
-ghost use Rattle.command_lines.specs.Asked.{HasPlainWords, IsAskedFor, IsFound, IsValid};
-ghost use Rattle.command_lines.specs.CommandLine.{GivesAll, GivesArgument, GivesBands, GivesFlag, GivesName, GivesNumber, GivesSide, GivesDimensions};
-ghost use Rattle.command_lines.specs.CommandLine.{HoldsWords, IsAskedBy, IsRightCommand, command_name, texts_of};
-ghost use Rattle.command_lines.specs.CommandLine.{bands_rule, check_app, list_app, over_app, play_app, prepare_app, show_app, side_rules};
+ghost use Rattle.clap.specs.Words.{all_of, found_of, kind_of, rows_of, subcommand_rows_of};
+ghost use Rattle.command_lines.specs.Asked.{HasPlainWords, HoldsInfo, IsAskedFor, IsFound, IsValid};
+ghost use Rattle.command_lines.specs.CommandLine.{AreRightArguments, GivesAll, HoldsWords, IsAskedBy, IsRightCommand, command_name, texts_of};
+ghost use Rattle.command_lines.specs.CommandLine.{check_app, list_app, over_app, play_app, prepare_app, show_app};
 ghost use Rattle.command_lines.specs.InfoWords.{AreCommandWords, AsksInfoOnce, GivesNamesOnce, HasOneInput, IsOther, names_in};
-ghost use Rattle.command_lines.specs.Dimensions.{AreDimensions, HasDimensions};
+ghost use Rattle.command_lines.specs.Dimensions.{HasDimensions};
+ghost use Rattle.command_lines.specs.RuleWords.{AreRightRules};
 ghost use Rattle.command_lines.specs.VersionWords.{AreVersionWords};
+ghost use Rattle.command_lines.specs.WrongWords.{AreWrongWords};
 
+use crate::arguments::{bands_of, dimensions_of, fit_of, name_of};
 use crate::asked::{Asked, CommandLine, STANDARD_INPUT};
 use crate::declared::metaplay;
+use crate::rule_words::rules_of;
 use clap::error::ErrorKind;
 use clap::{ArgMatches, Error};
-use mapping::MAX_SURFACE_SIDE;
 use std::alloc::{AllocError, Global};
 
 /// Parses the words of a command line, the program's name first, with `clap`. The error contains the text to show to
@@ -29,6 +30,7 @@ pub fn line<'a>(alloc: Global, words: &'a [String]) -> Result<Asked<'a>, Error>
     ensures plain { IfOk result (HasPlainWords (texts_of words.entry.now)) }
     ensures taken { IfErr result (λ e. AreCommandWords (texts_of words.entry.now) → kind_of e ≡ ErrorKind.OutOfMemory) }
     ensures version { AreVersionWords (texts_of words.entry.now) → result ≡ Ok Asked.Version }
+    ensures refused { IfOk result (λ _. AreWrongWords (texts_of words.entry.now) → ⊥) }
 {
     if asks_version(words) {
         return Ok(Asked::Version);
@@ -39,7 +41,7 @@ pub fn line<'a>(alloc: Global, words: &'a [String]) -> Result<Asked<'a>, Error>
     match asked(alloc, &matches)? {
         Some(asked) => Ok(asked),
         None => {
-            let why = "standard input was given more than once";
+            let why = why_wrong(&matches);
             Err(command.error(ErrorKind::ArgumentConflict, why)?)
         }
     }
@@ -59,7 +61,18 @@ fn count_law(words: &[String])
     let _ = words.len();
 }
 
-/// What was found, if its numbers are in range, and if at most one of its names is the word for standard input.
+/// What is wrong with what was found: the arguments for its rules, or its names.
+fn why_wrong(matches: &ArgMatches<'_>) -> &'static str {
+    if let Some((_, given)) = matches.subcommand() {
+        if let Err(wrong) = rules_of(given) {
+            return wrong.text();
+        }
+    }
+    "standard input was given more than once"
+}
+
+/// What was found, if its numbers are in range and its rules right, and if at most one of its names is the word for
+/// standard input.
 fn asked<'a>(alloc: Global, matches: &ArgMatches<'a>) -> Result<Option<Asked<'a>>, AllocError>
     ensures valid { IfOk result (λ asked. IfSome asked IsValid) }
     ensures asked { IfOk result (λ asked. IfSome asked (IsFound (subcommand_rows_of matches.now))) }
@@ -67,9 +80,24 @@ fn asked<'a>(alloc: Global, matches: &ArgMatches<'a>) -> Result<Option<Asked<'a>
     ensures info_taken { IfOk result (λ asked. AsksInfoOnce (subcommand_rows_of matches.now) → IsSome asked) }
 {
     if let Some(given) = matches.subcommand_matches("info") {
-        return Ok(names_of(alloc, given)?.map(Asked::Info));
+        return asked_info(alloc, given);
     }
     Ok(asked_command(matches).map(Asked::Command))
+}
+
+/// The names and the rules of `info`.
+fn asked_info<'a>(alloc: Global, given: &ArgMatches<'a>) -> Result<Option<Asked<'a>>, AllocError>
+    ensures valid { IfOk result (λ asked. IfSome asked IsValid) }
+    ensures gives { IfOk result (λ asked. IfSome asked (HoldsInfo (rows_of (found_of given.now)))) }
+    ensures taken { IfOk result (λ asked. GivesNamesOnce (rows_of (found_of given.now)) → AreRightRules (rows_of (found_of given.now)) → IsSome asked) }
+{
+    let Ok(rules) = rules_of(given) else {
+        return Ok(None);
+    };
+    let Some(names) = names_of(alloc, given)? else {
+        return Ok(None);
+    };
+    Ok(Some(Asked::Info { names, rules }))
 }
 
 /// The files' names, if at most one of them is the word for standard input.
@@ -126,9 +154,12 @@ fn asked_show<'a>(given: &ArgMatches<'a>) -> Option<CommandLine<'a>>
     ensures dimensions { IfSome result HasDimensions }
     ensures name { IfSome result (λ line. command_name line ≡ codes "show") }
     ensures gives { IfSome result (HoldsWords (rows_of (found_of given.now))) }
-    ensures taken { GivesAll show_app.top.rules (rows_of (found_of given.now)) → IsSome result }
+    ensures taken { AreRightArguments show_app.top (rows_of (found_of given.now)) → IsSome result }
 {
     let Some(file) = name_of(given, "FILE") else {
+        return None;
+    };
+    let Ok(rules) = rules_of(given) else {
         return None;
     };
     let Some((width, height)) = dimensions_of(given) else {
@@ -136,6 +167,7 @@ fn asked_show<'a>(given: &ArgMatches<'a>) -> Option<CommandLine<'a>>
     };
     Some(CommandLine::Show {
         file,
+        rules,
         width,
         height,
         fit: fit_of(given),
@@ -147,9 +179,12 @@ fn asked_prepare<'a>(given: &ArgMatches<'a>) -> Option<CommandLine<'a>>
     ensures dimensions { IfSome result HasDimensions }
     ensures name { IfSome result (λ line. command_name line ≡ codes "prepare") }
     ensures gives { IfSome result (HoldsWords (rows_of (found_of given.now))) }
-    ensures taken { GivesAll prepare_app.top.rules (rows_of (found_of given.now)) → IsSome result }
+    ensures taken { AreRightArguments prepare_app.top (rows_of (found_of given.now)) → IsSome result }
 {
     let Some(file) = name_of(given, "FILE") else {
+        return None;
+    };
+    let Ok(rules) = rules_of(given) else {
         return None;
     };
     let Some((width, height)) = dimensions_of(given) else {
@@ -160,6 +195,7 @@ fn asked_prepare<'a>(given: &ArgMatches<'a>) -> Option<CommandLine<'a>>
     };
     Some(CommandLine::Prepare {
         file,
+        rules,
         width,
         height,
         output,
@@ -239,67 +275,13 @@ fn asked_list<'a>(given: &ArgMatches<'a>) -> Option<CommandLine<'a>>
     ensures dimensions { IfSome result HasDimensions }
     ensures name { IfSome result (λ line. command_name line ≡ codes "list") }
     ensures gives { IfSome result (HoldsWords (rows_of (found_of given.now))) }
-    ensures taken { GivesAll list_app.top.rules (rows_of (found_of given.now)) → IsSome result }
+    ensures taken { AreRightArguments list_app.top (rows_of (found_of given.now)) → IsSome result }
 {
     let Some(file) = name_of(given, "FILE") else {
         return None;
     };
-    Some(CommandLine::List { file })
-}
-
-/// The text of an argument, as a file's name.
-fn name_of<'a>(given: &ArgMatches<'a>, id: &str) -> Option<&'a str>
-    ensures given { IfSome result (λ name. GivesName (rows_of (found_of given.now)) id.now name.now) }
-    ensures taken { IsSome (first_of id.now (rows_of (found_of given.now))) → IsSome result }
-{
-    given.get_str(id)
-}
-
-/// The width and height of a surface, if they are in range.
-fn dimensions_of(given: &ArgMatches<'_>) -> Option<(u32, u32)>
-    ensures dimensions { IfSome result (λ dimensions. AreDimensions dimensions.0 dimensions.1) }
-    ensures given { IfSome result (λ dimensions. GivesDimensions (rows_of (found_of given.now)) dimensions.0 dimensions.1) }
-    ensures taken { GivesAll side_rules (rows_of (found_of given.now)) → IsSome result }
-{
-    let Some(width) = side_of(given, "W") else {
+    let Ok(rules) = rules_of(given) else {
         return None;
     };
-    let Some(height) = side_of(given, "H") else {
-        return None;
-    };
-    Some((width, height))
-}
-
-/// The number of rows in a band, if it is given. It must be in range, which the parser ensures.
-fn bands_of(given: &ArgMatches<'_>) -> Option<Option<u32>>
-    ensures range { IfSome result (λ bands. IfSome bands IsSurfaceSide) }
-    ensures given { IfSome result (GivesBands (rows_of (found_of given.now))) }
-    ensures taken { GivesArgument bands_rule (rows_of (found_of given.now)) → IsSome result }
-{
-    let Some(_) = name_of(given, "ROWS") else {
-        return Some(None);
-    };
-    let Some(rows) = side_of(given, "ROWS") else {
-        return None;
-    };
-    Some(Some(rows))
-}
-
-/// Whether the proportion of the frame is asked for.
-fn fit_of(given: &ArgMatches<'_>) -> bool
-    ensures { GivesFlag (rows_of (found_of given.now)) (codes "fit") result }
-{
-    given.get_flag("fit")
-}
-
-/// A width or a height, if it is in range, which the parser ensures.
-fn side_of(matches: &ArgMatches<'_>, id: &str) -> Option<u32>
-    ensures side { IfSome result IsSurfaceSide }
-    ensures given { IfSome result (GivesNumber (rows_of (found_of matches.now)) id.now) }
-    ensures taken { GivesSide (rows_of (found_of matches.now)) id.now → IsSome result }
-{
-    let Some(side) = matches.get_one::<u32>(id) else {
-        return None;
-    };
-    (1 <= side && side <= MAX_SURFACE_SIDE).then_some(side)
+    Some(CommandLine::List { file, rules })
 }

@@ -3,8 +3,8 @@
 ghost use Rattle.std.specs.Prelude.{◌≡◌, IfOk, false};
 ghost use Rattle.clap.specs.Words.{app_of, rule_of};
 ghost use Rattle.command_lines.specs.CommandLine.{check_app, file_app, info_app, list_app, metaplay_app, name_rule, over_app};
-ghost use Rattle.command_lines.specs.CommandLine.{bands_rule, files_rule, fit_rule, play_app, prepare_app, show_app, side_rule};
-ghost use Rattle.command_lines.specs.Apps.{AddsDimensions, IsLocalApp};
+ghost use Rattle.command_lines.specs.CommandLine.{allow_rule, bands_rule, files_rule, fit_rule, play_app, prepare_app, profile_rule, show_app, side_rule};
+ghost use Rattle.command_lines.specs.Apps.{AddsDimensions, AddsRules, IsLocalApp};
 
 use clap::{Arg, ArgAction, Command, value_parser};
 use mapping::MAX_SURFACE_SIDE;
@@ -24,7 +24,7 @@ certified number of pixels.";
 /// The text below the options in the help.
 const GUIDE: &str = "Examples:
   metaplay show drawing.wmf 400 300 --fit > drawing.ppm
-  metaplay prepare drawing.wmf 4096 4096 drawing.cert
+  metaplay prepare drawing.wmf 4096 4096 drawing.cert --profile print
   metaplay check drawing.wmf drawing.cert
   metaplay play drawing.wmf drawing.cert 400 300 > drawing.ppm
   metaplay over drawing.wmf drawing.cert page.ppm > printed.ppm
@@ -80,7 +80,8 @@ fn show<'a>(alloc: Global) -> Result<Command<'a>, AllocError>
     let about = "Plays a metafile on white and writes the image to standard output";
     let command = of_file(alloc, "show", about)?;
     let command = with_dimensions(alloc, command)?;
-    command.arg(fit(alloc))
+    let command = command.arg(fit(alloc))?;
+    with_rules(alloc, command)
 }
 
 /// The command `prepare`.
@@ -90,7 +91,8 @@ fn prepare<'a>(alloc: Global) -> Result<Command<'a>, AllocError>
     let about = "Makes a certificate for a metafile, for surfaces of at most W by H";
     let command = of_file(alloc, "prepare", about)?;
     let command = with_dimensions(alloc, command)?;
-    command.arg(name(alloc, "OUT", "The file to write the certificate to"))
+    let command = command.arg(name(alloc, "OUT", "The file to write the certificate to"))?;
+    with_rules(alloc, command)
 }
 
 /// The command `check`.
@@ -133,16 +135,18 @@ fn list<'a>(alloc: Global) -> Result<Command<'a>, AllocError>
     ensures { IfOk result (IsLocalApp list_app) }
 {
     let about = "Writes one line for each record of a metafile";
-    of_file(alloc, "list", about)
+    let command = of_file(alloc, "list", about)?;
+    with_rules(alloc, command)
 }
 
 /// The command `info`.
 fn info<'a>(alloc: Global) -> Result<Command<'a>, AllocError>
     ensures { IfOk result (IsLocalApp info_app) }
 {
-    Command::new(alloc, "info")
+    let command = Command::new(alloc, "info")
         .about("Writes one line of JSON about each metafile")
-        .arg(files(alloc))
+        .arg(files(alloc))?;
+    with_rules(alloc, command)
 }
 
 /// A command with a metafile.
@@ -162,6 +166,13 @@ fn with_dimensions<'a>(alloc: Global, command: Command<'a>) -> Result<Command<'a
     command
         .arg(side(alloc, "W", "The width of the surface in pixels"))?
         .arg(side(alloc, "H", "The height of the surface in pixels"))
+}
+
+/// Adds the options for the rules to a command.
+fn with_rules<'a>(alloc: Global, command: Command<'a>) -> Result<Command<'a>, AllocError>
+    ensures { IfOk result (AddsRules command.entry) }
+{
+    command.arg(profile(alloc))?.arg(allow(alloc))
 }
 
 /// A file's name.
@@ -208,6 +219,28 @@ fn fit<'a>(alloc: Global) -> Arg<'a>
         .long("fit")
         .action(ArgAction::SetTrue)
         .help("Keep the picture's proportion; W and H are then the most")
+}
+
+/// The option for the profile.
+fn profile<'a>(alloc: Global) -> Arg<'a>
+    ensures rule { rule_of result ≡ profile_rule }
+    ensures local { result.global ≡ false }
+{
+    Arg::new(alloc, "PROFILE")
+        .long("profile")
+        .action(ArgAction::Set)
+        .help("The rules: core (the default), or print for large surfaces")
+}
+
+/// The option for what the print profile allows.
+fn allow<'a>(alloc: Global) -> Arg<'a>
+    ensures rule { rule_of result ≡ allow_rule }
+    ensures local { result.global ≡ false }
+{
+    Arg::new(alloc, "NAME")
+        .long("allow")
+        .action(ArgAction::Append)
+        .help("With print: also accept held-deletion or emf-plus")
 }
 
 /// The width or the height of the surface.

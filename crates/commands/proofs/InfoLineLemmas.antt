@@ -8,6 +8,7 @@ use Rattle.std.proofs.lemmas.List.{append_assoc, append-nil, take-append-drop, t
 use Rattle.std.proofs.lemmas.List.Sums.{fold_push, sum_by-append}
 use Rattle.canvas.specs.Ppm.{AppendsPrefix}
 use Rattle.canvas.specs.Sending.{Sending, sending_all, sending_kept, sending_none, sending_prefix, sending_prefix_more, sending_rest, sending_whole}
+use Rattle.draw_ops.specs.declared.rules.Rules.{Rules}
 use Rattle.command_lines.specs.InfoWords.{HasOneInput, names_in}
 use Rattle.commands.specs.Ends.{WritesPrefix, WritesText}
 use Rattle.commands.specs.InfoLines.{InfoLine, InfoWrites, IsLineBy, IsTextAbout, IsTextAboutFirst, worse, worst}
@@ -29,13 +30,13 @@ CanEnd end.CannotWrite = ⊥
 CanEnd end.WrongUsage = ⊥
 CanEnd ending = Unit {0}
 
-line_ends : (name : List ℕ) (input : Option (List ℕ)) (text : List ℕ) (e : CommandEnd) → IsLineBy e name input text → CanEnd e
-line_ends name input text end.Done line = tt
-line_ends name input text end.Rejected line = tt
-line_ends name input text end.CannotRead line = tt
-line_ends name input text end.OutOfMemory line = tt
-line_ends name input text end.CannotWrite line = absurd line.line
-line_ends name input text end.WrongUsage line = absurd line.line
+line_ends : (rules : Rules) (name : List ℕ) (input : Option (List ℕ)) (text : List ℕ) (e : CommandEnd) → IsLineBy e rules name input text → CanEnd e
+line_ends rules name input text end.Done line = tt
+line_ends rules name input text end.Rejected line = tt
+line_ends rules name input text end.CannotRead line = tt
+line_ends rules name input text end.OutOfMemory line = tt
+line_ends rules name input text end.CannotWrite line = absurd line.line
+line_ends rules name input text end.WrongUsage line = absurd line.line
 
 worse_ends : (a b : CommandEnd) → CanEnd a → CanEnd b → CanEnd (worse a b)
 worse_ends a b first second = go (nat_lt (status_of a) (status_of b)) refl
@@ -45,15 +46,15 @@ worse_ends a b first second = go (nat_lt (status_of a) (status_of b)) refl
     go false is = rw is first
 
 -- lines about these files were written, and the worst of them ends so
-pub record HasLines (input : Option (List ℕ)) (names : List (List ℕ)) (ending : CommandEnd) (old new : Option (List ℕ)) : Type 0 where
+pub record HasLines (rules : Rules) (input : Option (List ℕ)) (names : List (List ℕ)) (ending : CommandEnd) (old new : Option (List ℕ)) : Type 0 where
   pub lines : List InfoLine
-  pub each : AllZip (λ name line. IsLineBy line.end name input line.text) names lines
+  pub each : AllZip (λ name line. IsLineBy line.end rules name input line.text) names lines
   pub ends : ending ≡ worst lines
   pub written : Appends old new (text_of_lines lines)
   pub ended : CanEnd ending
 
-pub no_lines : (input known : Option (List ℕ)) → HasLines input [] end.Done known known
-no_lines input known = record { lines = []; each = tt; ends = refl; written = sending_all (sending_none known []); ended = tt }
+pub no_lines : (rules : Rules) (input known : Option (List ℕ)) → HasLines rules input [] end.Done known known
+no_lines rules input known = record { lines = []; each = tt; ends = refl; written = sending_all (sending_none known []); ended = tt }
 
 zip_push : {A B : Type 0} (R : A → B → Type 0) (xs : List A) (ys : List B) (x : A) (y : B) → AllZip R xs ys → R x y → AllZip R (xs ++ x ∷ []) (ys ++ y ∷ [])
 zip_push R [] [] x y all one = (one, tt)
@@ -65,23 +66,23 @@ text_push : (lines : List InfoLine) (line : InfoLine) → text_of_lines (lines +
 text_push [] line = append-nil line.text
 text_push (first ∷ lines) line = ap (λ (text : List ℕ). first.text ++ text) (text_push lines line) ∙ sym (append_assoc first.text (text_of_lines lines) line.text)
 
-module _ (input : Option (List ℕ)) (names : List (List ℕ)) (ending : CommandEnd) (old mid new : Option (List ℕ)) (name text : List ℕ) (of_file : CommandEnd) where
+module _ (rules : Rules) (input : Option (List ℕ)) (names : List (List ℕ)) (ending : CommandEnd) (old mid new : Option (List ℕ)) (name text : List ℕ) (of_file : CommandEnd) where
   abbrev the_line : InfoLine
   the_line = record { text = text; end = of_file }
 
   -- one more line was written
-  pub line_more : HasLines input names ending old mid → IsLineBy of_file name input text → Appends mid new text → HasLines input (names ++ name ∷ []) (worse ending of_file) old new
+  pub line_more : HasLines rules input names ending old mid → IsLineBy of_file rules name input text → Appends mid new text → HasLines rules input (names ++ name ∷ []) (worse ending of_file) old new
   line_more so_far is sent = record {
     lines = so_far.lines ++ the_line ∷ [];
-    each = zip_push (λ name line. IsLineBy line.end name input line.text) names so_far.lines name the_line so_far.each is;
+    each = zip_push (λ name line. IsLineBy line.end rules name input line.text) names so_far.lines name the_line so_far.each is;
     ends = ap (λ (e : CommandEnd). worse e of_file) so_far.ends ∙ sym (fold_push (λ so line. worse so line.end) end.Done so_far.lines the_line);
     written = subst (λ (t : List ℕ). Appends old new t) (sym (text_push so_far.lines the_line))
         (sending_rest new (record { sent = text_of_lines so_far.lines; prefix = refl; appended = so_far.written }) sent);
-    ended = worse_ends ending of_file so_far.ended (line_ends name input text of_file is);
+    ended = worse_ends ending of_file so_far.ended (line_ends rules name input text of_file is);
   }
 
   -- a prefix of one more line was written
-  pub line_begun : (rest : List (List ℕ)) → HasLines input names ending old mid → IsLineBy of_file name input text → AppendsPrefix mid new text → WritesPrefix (IsTextAboutFirst input ((names ++ name ∷ []) ++ rest)) old new
+  pub line_begun : (rest : List (List ℕ)) → HasLines rules input names ending old mid → IsLineBy of_file rules name input text → AppendsPrefix mid new text → WritesPrefix (IsTextAboutFirst rules input ((names ++ name ∷ []) ++ rest)) old new
   line_begun rest so_far is sent = record {
     text = text_of_lines (so_far.lines ++ the_line ∷ []);
     fact = record {
@@ -89,15 +90,15 @@ module _ (input : Option (List ℕ)) (names : List (List ℕ)) (ending : Command
       rest = rest;
       are = refl;
       ending = worst (so_far.lines ++ the_line ∷ []);
-      about = record { lines = so_far.lines ++ the_line ∷ []; each = zip_push (λ name line. IsLineBy line.end name input line.text) names so_far.lines name the_line so_far.each is; ends = refl; joined = refl };
+      about = record { lines = so_far.lines ++ the_line ∷ []; each = zip_push (λ name line. IsLineBy line.end rules name input line.text) names so_far.lines name the_line so_far.each is; ends = refl; joined = refl };
     };
     written = subst (λ (t : List ℕ). AppendsPrefix old new t) (sym (text_push so_far.lines the_line))
         (sending_prefix_more text [] (record { sent = text_of_lines so_far.lines; prefix = refl; appended = so_far.written }) (sym (append-nil text)) sent);
   }
 
-module _ (input : Option (List ℕ)) (names : List (List ℕ)) (ending : CommandEnd) (old mid new : Option (List ℕ)) where
+module _ (rules : Rules) (input : Option (List ℕ)) (names : List (List ℕ)) (ending : CommandEnd) (old mid new : Option (List ℕ)) where
   -- these are lines about the first of all files
-  pub lines_of_first : (rest : List (List ℕ)) → HasLines input names ending old new → WritesText (IsTextAboutFirst input (names ++ rest)) old new
+  pub lines_of_first : (rest : List (List ℕ)) → HasLines rules input names ending old new → WritesText (IsTextAboutFirst rules input (names ++ rest)) old new
   lines_of_first rest so_far = record {
     text = text_of_lines so_far.lines;
     fact = record { first = names; rest = rest; are = refl; ending = ending; about = record { lines = so_far.lines; each = so_far.each; ends = so_far.ends; joined = refl } };
@@ -105,7 +106,7 @@ module _ (input : Option (List ℕ)) (names : List (List ℕ)) (ending : Command
   }
 
   -- nothing is written after the lines
-  lines_kept : HasLines input names ending old mid → Keeps mid new → HasLines input names ending old new
+  lines_kept : HasLines rules input names ending old mid → Keeps mid new → HasLines rules input names ending old new
   lines_kept so_far keeps = record {
     lines = so_far.lines;
     each = so_far.each;
@@ -115,7 +116,7 @@ module _ (input : Option (List ℕ)) (names : List (List ℕ)) (ending : Command
   }
 
   -- the lines of all files were written
-  all_lines : HasLines input names ending old new → WritesText (IsTextAbout input names ending) old new
+  all_lines : HasLines rules input names ending old new → WritesText (IsTextAbout rules input names ending) old new
   all_lines so_far = record {
     text = text_of_lines so_far.lines;
     fact = record { lines = so_far.lines; each = so_far.each; ends = so_far.ends; joined = refl };
@@ -123,22 +124,22 @@ module _ (input : Option (List ℕ)) (names : List (List ℕ)) (ending : Command
   }
 
   -- the output failed behind them
-  pub lines_unflushed : HasLines input names ending old mid → Keeps mid new → WritesPrefix (IsTextAboutFirst input names) old new
+  pub lines_unflushed : HasLines rules input names ending old mid → Keeps mid new → WritesPrefix (IsTextAboutFirst rules input names) old new
   lines_unflushed so_far keeps =
       let written = lines_of_first [] (lines_kept so_far keeps) in
-      subst (λ (all : List (List ℕ)). WritesPrefix (IsTextAboutFirst input all) old new) (append-nil names)
+      subst (λ (all : List (List ℕ)). WritesPrefix (IsTextAboutFirst rules input all) old new) (append-nil names)
       (record { text = written.text; fact = written.fact; written = sending_prefix (sending_whole written.written) })
 
 -- all lines were written, and the output was flushed
-pub lines_finished : (input : Option (List ℕ)) (names : List (List ℕ)) (ending : CommandEnd) (old mid new : Option (List ℕ)) → HasLines input names ending old mid → Keeps mid new → InfoWrites ending names input old new
-lines_finished input names end.Done old mid new so_far keeps = all_lines input names end.Done old mid new (lines_kept input names end.Done old mid new so_far keeps)
-lines_finished input names end.Rejected old mid new so_far keeps = all_lines input names end.Rejected old mid new (lines_kept input names end.Rejected old mid new so_far keeps)
-lines_finished input names end.CannotRead old mid new so_far keeps = all_lines input names end.CannotRead old mid new (lines_kept input names end.CannotRead old mid new so_far keeps)
-lines_finished input names end.OutOfMemory old mid new so_far keeps =
-    subst (λ (all : List (List ℕ)). WritesText (IsTextAboutFirst input all) old new) (append-nil names)
-    (lines_of_first input names end.OutOfMemory old mid new [] (lines_kept input names end.OutOfMemory old mid new so_far keeps))
-lines_finished input names end.CannotWrite old mid new so_far keeps = absurd so_far.ended
-lines_finished input names end.WrongUsage old mid new so_far keeps = absurd so_far.ended
+pub lines_finished : (rules : Rules) (input : Option (List ℕ)) (names : List (List ℕ)) (ending : CommandEnd) (old mid new : Option (List ℕ)) → HasLines rules input names ending old mid → Keeps mid new → InfoWrites ending names rules input old new
+lines_finished rules input names end.Done old mid new so_far keeps = all_lines rules input names end.Done old mid new (lines_kept rules input names end.Done old mid new so_far keeps)
+lines_finished rules input names end.Rejected old mid new so_far keeps = all_lines rules input names end.Rejected old mid new (lines_kept rules input names end.Rejected old mid new so_far keeps)
+lines_finished rules input names end.CannotRead old mid new so_far keeps = all_lines rules input names end.CannotRead old mid new (lines_kept rules input names end.CannotRead old mid new so_far keeps)
+lines_finished rules input names end.OutOfMemory old mid new so_far keeps =
+    subst (λ (all : List (List ℕ)). WritesText (IsTextAboutFirst rules input all) old new) (append-nil names)
+    (lines_of_first rules input names end.OutOfMemory old mid new [] (lines_kept rules input names end.OutOfMemory old mid new so_far keeps))
+lines_finished rules input names end.CannotWrite old mid new so_far keeps = absurd so_far.ended
+lines_finished rules input names end.WrongUsage old mid new so_far keeps = absurd so_far.ended
 
 -- the lines' end is no failed output
 pub lines_failed : (ending : CommandEnd) (P : Type 0) → CanEnd ending → ending ≡ end.CannotWrite → P
@@ -206,29 +207,29 @@ module _ (names : Names) (place : ℕ) (d : Bor (List ℕ)) (less : place < leng
       unread_before (names_in (take place names)) (names_in (drop (place + 1) names)) (get_or names place d).now old now
       (subst HasOneInput (sym (names_split names place d less) ∙ append_assoc (names_in (take place names)) ((get_or names place d).now ∷ []) (names_in (drop (place + 1) names))) once) unread
 
-  pub next_input : HasOneInput (names_in names) → IsUnread (names_in (take place names)) old now → (text : List ℕ) (e : CommandEnd) → IsLineBy e (get_or names place d).now now text → IsLineBy e (get_or names place d).now old text
-  next_input once unread text e line = record { bytes = line.bytes; read = input_since (get_or names place d).now old now line.bytes (next_unread once unread) line.read; line = line.line }
+  pub next_input : (rules : Rules) → HasOneInput (names_in names) → IsUnread (names_in (take place names)) old now → (text : List ℕ) (e : CommandEnd) → IsLineBy e rules (get_or names place d).now now text → IsLineBy e rules (get_or names place d).now old text
+  next_input rules once unread text e line = record { bytes = line.bytes; read = input_since (get_or names place d).now old now line.bytes (next_unread once unread) line.read; line = line.line }
 
   pub then_unread : IsUnread (names_in (take place names)) old now → (((get_or names place d).now ≡ standard_input → ⊥) → Keeps now new) → IsUnread (names_in (take (place + 1) names)) old new
   then_unread unread keeps =
       subst (λ (first : List (List ℕ)). IsUnread first old new) (sym (names_more names place d less))
       (unread_after (names_in (take place names)) [] (get_or names place d).now old now new unread keeps)
 
-module _ (input : Option (List ℕ)) (names : Names) (place : ℕ) (d : Bor (List ℕ)) (less : place < length names) (ending of_file : CommandEnd) (old mid new : Option (List ℕ)) (text : List ℕ) where
-  pub then_lines : HasLines input (names_in (take place names)) ending old mid → IsLineBy of_file (get_or names place d).now input text → Appends mid new text
-      → HasLines input (names_in (take (place + 1) names)) (worse ending of_file) old new
+module _ (rules : Rules) (input : Option (List ℕ)) (names : Names) (place : ℕ) (d : Bor (List ℕ)) (less : place < length names) (ending of_file : CommandEnd) (old mid new : Option (List ℕ)) (text : List ℕ) where
+  pub then_lines : HasLines rules input (names_in (take place names)) ending old mid → IsLineBy of_file rules (get_or names place d).now input text → Appends mid new text
+      → HasLines rules input (names_in (take (place + 1) names)) (worse ending of_file) old new
   then_lines so_far line sent =
-      subst (λ (first : List (List ℕ)). HasLines input first (worse ending of_file) old new) (sym (names_more names place d less))
-      (line_more input (names_in (take place names)) ending old mid new (get_or names place d).now text of_file so_far line sent)
+      subst (λ (first : List (List ℕ)). HasLines rules input first (worse ending of_file) old new) (sym (names_more names place d less))
+      (line_more rules input (names_in (take place names)) ending old mid new (get_or names place d).now text of_file so_far line sent)
 
-  pub then_begun : HasLines input (names_in (take place names)) ending old mid → IsLineBy of_file (get_or names place d).now input text → AppendsPrefix mid new text
-      → WritesPrefix (IsTextAboutFirst input (names_in names)) old new
+  pub then_begun : HasLines rules input (names_in (take place names)) ending old mid → IsLineBy of_file rules (get_or names place d).now input text → AppendsPrefix mid new text
+      → WritesPrefix (IsTextAboutFirst rules input (names_in names)) old new
   then_begun so_far line sent =
-      subst (λ (all : List (List ℕ)). WritesPrefix (IsTextAboutFirst input all) old new) (names_split names place d less)
-      (line_begun input (names_in (take place names)) ending old mid new (get_or names place d).now text of_file (names_in (drop (place + 1) names)) so_far line sent)
+      subst (λ (all : List (List ℕ)). WritesPrefix (IsTextAboutFirst rules input all) old new) (names_split names place d less)
+      (line_begun rules input (names_in (take place names)) ending old mid new (get_or names place d).now text of_file (names_in (drop (place + 1) names)) so_far line sent)
 
 -- memory ran out for the line of the next file
-pub lines_before : (input : Option (List ℕ)) (names : Names) (place : ℕ) (ending : CommandEnd) (old new : Option (List ℕ)) → HasLines input (names_in (take place names)) ending old new → WritesText (IsTextAboutFirst input (names_in names)) old new
-lines_before input names place ending old new so_far =
-    subst (λ (all : List (List ℕ)). WritesText (IsTextAboutFirst input all) old new) (names_take names place)
-    (lines_of_first input (names_in (take place names)) ending old new new (names_in (drop place names)) so_far)
+pub lines_before : (rules : Rules) (input : Option (List ℕ)) (names : Names) (place : ℕ) (ending : CommandEnd) (old new : Option (List ℕ)) → HasLines rules input (names_in (take place names)) ending old new → WritesText (IsTextAboutFirst rules input (names_in names)) old new
+lines_before rules input names place ending old new so_far =
+    subst (λ (all : List (List ℕ)). WritesText (IsTextAboutFirst rules input all) old new) (names_take names place)
+    (lines_of_first rules input (names_in (take place names)) ending old new new (names_in (drop place names)) so_far)

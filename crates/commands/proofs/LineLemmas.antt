@@ -2,6 +2,7 @@
 use Rattle.std.proofs.Common.{◌≡◌, ◌⊎◌, codes, inl, inr, ℕ, List, Option}
 use Rattle.std.specs.Io.KnownBytes.{Keeps}
 use Rattle.clap.specs.Words.{Text}
+use Rattle.draw_ops.specs.declared.rules.Rules.{Rules}
 use Rattle.command_lines.specs.CommandLine.{HoldsOfAsked, IsAskedByWords}
 use Rattle.commands.specs.Ends.{PrintsBy}
 use Rattle.commands.specs.InfoLines.{InfoPrints, InfoWrites}
@@ -22,12 +23,12 @@ use Rattle.command_lines.specs.declared.asked.CommandLine.TheVariants.{Check, Li
 
 -- if an allocation failed, a task has written nothing
 kept : (line : CommandLine) (file certificate image : List ℕ) (old new : Option (List ℕ)) → LineWrites line (task_of line file certificate image) end.OutOfMemory old new → Keeps old new
-kept (Show name width height fit) file certificate image old new keeps = keeps
-kept (Prepare name width height output) file certificate image old new keeps = keeps
+kept (Show name rules width height fit) file certificate image old new keeps = keeps
+kept (Prepare name rules width height output) file certificate image old new keeps = keeps
 kept (Check name other) file certificate image old new keeps = keeps
 kept (Play name other width height bands fit) file certificate image old new keeps = keeps
 kept (Over name other third) file certificate image old new keeps = keeps
-kept (ListLine name) file certificate image old new keeps = keeps
+kept (ListLine name rules) file certificate image old new keeps = keeps
 
 module _ (line : CommandLine) (input : Option (List ℕ)) (file certificate image : List ℕ) (read : IsInput (file_of line) input file) (printed : Printed) (before after : Option (List ℕ)) where
   pub out_of_task : (e : CommandEnd) (old new : Option (List ℕ)) → LineWrites line (task_of line file certificate image) e old new → PrintsBy e (task_of line file certificate image) printed before after → OutBy e line input old new
@@ -99,31 +100,31 @@ module _ (words : List Text) (line : CommandLine) (input : Option (List ℕ)) (v
   usage_unwritten end.OutOfMemory old new fact is = absurd cc
 
 -- what `info` writes and reports for names that the words give it
-module _ (words names : List Text) (input : Option (List ℕ)) (version : List ℕ) (once : HasOneInput names) (asked : AsksInfoByWords words names) where
-  pub out_of_names : (e : CommandEnd) (old new : Option (List ℕ)) → InfoWrites e names input old new → OutOfWords e words input version old new
-  out_of_names end.Done old new fact = inr (inl (record { names = names; once = once; asked = asked; fact = fact }))
-  out_of_names end.Rejected old new fact = inr (inl (record { names = names; once = once; asked = asked; fact = fact }))
-  out_of_names end.CannotWrite old new fact = inr (inl (record { names = names; once = once; asked = asked; fact = fact }))
-  out_of_names end.CannotRead old new fact = inr (inl (record { names = names; once = once; asked = asked; fact = fact }))
-  out_of_names end.OutOfMemory old new fact = inr (record { names = names; once = once; asked = asked; fact = fact })
+module _ (words names : List Text) (rules : Rules) (input : Option (List ℕ)) (version : List ℕ) (once : HasOneInput names) (asked : AsksInfoByWords words names rules) where
+  pub out_of_names : (e : CommandEnd) (old new : Option (List ℕ)) → InfoWrites e names rules input old new → OutOfWords e words input version old new
+  out_of_names end.Done old new fact = inr (inl (record { names = names; rules = rules; once = once; asked = asked; fact = fact }))
+  out_of_names end.Rejected old new fact = inr (inl (record { names = names; rules = rules; once = once; asked = asked; fact = fact }))
+  out_of_names end.CannotWrite old new fact = inr (inl (record { names = names; rules = rules; once = once; asked = asked; fact = fact }))
+  out_of_names end.CannotRead old new fact = inr (inl (record { names = names; rules = rules; once = once; asked = asked; fact = fact }))
+  out_of_names end.OutOfMemory old new fact = inr (record { names = names; rules = rules; once = once; asked = asked; fact = fact })
   out_of_names end.WrongUsage old new fact = tt
 
   pub err_of_names : (e : CommandEnd) (printed : Printed) (old new : Option (List ℕ)) → InfoPrints e printed old new → ErrOfWords e words input printed old new
-  err_of_names end.Done printed old new fact = inr (inl (record { names = names; once = once; asked = asked; fact = fact }))
-  err_of_names end.Rejected printed old new fact = inr (inl (record { names = names; once = once; asked = asked; fact = fact }))
-  err_of_names end.CannotWrite printed old new fact = inr (inl (record { names = names; once = once; asked = asked; fact = fact }))
-  err_of_names end.CannotRead printed old new fact = inr (inl (record { names = names; once = once; asked = asked; fact = fact }))
+  err_of_names end.Done printed old new fact = inr (inl (record { names = names; rules = rules; once = once; asked = asked; fact = fact }))
+  err_of_names end.Rejected printed old new fact = inr (inl (record { names = names; rules = rules; once = once; asked = asked; fact = fact }))
+  err_of_names end.CannotWrite printed old new fact = inr (inl (record { names = names; rules = rules; once = once; asked = asked; fact = fact }))
+  err_of_names end.CannotRead printed old new fact = inr (inl (record { names = names; rules = rules; once = once; asked = asked; fact = fact }))
   err_of_names end.OutOfMemory printed old new fact = fact
   err_of_names end.WrongUsage printed old new fact = tt
 
 -- information is never wrong usage
-pub never_usage : (e : CommandEnd) (names : List Text) (input old new : Option (List ℕ)) (P : Type 0) → InfoWrites e names input old new → e ≡ end.WrongUsage → P
-never_usage end.WrongUsage names input old new P fact is = absurd fact
-never_usage end.Done names input old new P fact is = absurd cc
-never_usage end.Rejected names input old new P fact is = absurd cc
-never_usage end.CannotWrite names input old new P fact is = absurd cc
-never_usage end.CannotRead names input old new P fact is = absurd cc
-never_usage end.OutOfMemory names input old new P fact is = absurd cc
+pub never_usage : (e : CommandEnd) (names : List Text) (rules : Rules) (input old new : Option (List ℕ)) (P : Type 0) → InfoWrites e names rules input old new → e ≡ end.WrongUsage → P
+never_usage end.WrongUsage names rules input old new P fact is = absurd fact
+never_usage end.Done names rules input old new P fact is = absurd cc
+never_usage end.Rejected names rules input old new P fact is = absurd cc
+never_usage end.CannotWrite names rules input old new P fact is = absurd cc
+never_usage end.CannotRead names rules input old new P fact is = absurd cc
+never_usage end.OutOfMemory names rules input old new P fact is = absurd cc
 
 -- what is written and reported if the words ask for the version
 module _ (words : List Text) (input : Option (List ℕ)) (version : List ℕ) (asked : AreVersionWords words) where
@@ -153,16 +154,16 @@ version_is_right end.CannotRead version old new P fact is = absurd fact
 version_is_right end.OutOfMemory version old new P fact is = absurd fact
 
 -- what holds for a parsed command line, or for names, holds for words that give them
-pub holds_of_line : (words : List Text) (line : CommandLine) (holds : CommandLine → Type 0) (of_names : List Text → Type 0) (of_version : Type 0) → HasDimensions line → IsAskedByWords words line → holds line → HoldsOfWords words holds of_names of_version
+pub holds_of_line : (words : List Text) (line : CommandLine) (holds : CommandLine → Type 0) (of_names : List Text → Rules → Type 0) (of_version : Type 0) → HasDimensions line → IsAskedByWords words line → holds line → HoldsOfWords words holds of_names of_version
 holds_of_line words line holds of_names of_version dimensions asked fact = inl (record { line = line; dimensions = dimensions; asked = asked; fact = fact })
 
-pub holds_of_names : (words names : List Text) (of_line : CommandLine → Type 0) (holds : List Text → Type 0) (of_version : Type 0) → HasOneInput names → AsksInfoByWords words names → holds names → HoldsOfWords words of_line holds of_version
-holds_of_names words names of_line holds of_version once asked fact = inr (inl (record { names = names; once = once; asked = asked; fact = fact }))
+pub holds_of_names : (words names : List Text) (rules : Rules) (of_line : CommandLine → Type 0) (holds : List Text → Rules → Type 0) (of_version : Type 0) → HasOneInput names → AsksInfoByWords words names rules → holds names rules → HoldsOfWords words of_line holds of_version
+holds_of_names words names rules of_line holds of_version once asked fact = inr (inl (record { names = names; rules = rules; once = once; asked = asked; fact = fact }))
 
 -- what holds for what the words ask for holds for some command
-pub holds_of_some : (words : List Text) (of_line : CommandLine → Type 0) (of_names : List Text → Type 0) (of_version : Type 0) → HoldsOfWords words of_line of_names of_version → HoldsOfAny of_line of_names of_version
+pub holds_of_some : (words : List Text) (of_line : CommandLine → Type 0) (of_names : List Text → Rules → Type 0) (of_version : Type 0) → HoldsOfWords words of_line of_names of_version → HoldsOfAny of_line of_names of_version
 holds_of_some words of_line of_names of_version (inl asked) = inl (record { line = asked.line; dimensions = asked.dimensions; fact = asked.fact })
-holds_of_some words of_line of_names of_version (inr (inl asked)) = inr (inl (record { names = asked.names; once = asked.once; fact = asked.fact }))
+holds_of_some words of_line of_names of_version (inr (inl asked)) = inr (inl (record { names = asked.names; rules = asked.rules; once = asked.once; fact = asked.fact }))
 holds_of_some words of_line of_names of_version (inr (inr asked)) = inr (inr asked.1)
 
 -- wrong usage and out of memory aren't failed outputs, and the work isn't done
@@ -181,7 +182,7 @@ out_of_asked words input version end.Rejected old new asked = holds_of_some word
 out_of_asked words input version end.CannotWrite old new asked = holds_of_some words _ _ _ asked
 out_of_asked words input version end.CannotRead old new asked = holds_of_some words _ _ _ asked
 out_of_asked words input version end.OutOfMemory old new (inl keeps) = inl keeps
-out_of_asked words input version end.OutOfMemory old new (inr asked) = inr (record { names = asked.names; once = asked.once; fact = asked.fact })
+out_of_asked words input version end.OutOfMemory old new (inr asked) = inr (record { names = asked.names; rules = asked.rules; once = asked.once; fact = asked.fact })
 out_of_asked words input version end.WrongUsage old new asked = asked
 
 pub err_of_asked : (words : List Text) (input : Option (List ℕ)) (e : CommandEnd) (printed : Printed) (old new : Option (List ℕ)) → ErrOfWords e words input printed old new → ErrOfSome e input printed old new

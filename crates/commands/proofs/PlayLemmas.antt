@@ -1,17 +1,20 @@
 -- What is played of a checked file, and why it isn't.
-use Rattle.std.proofs.Common.{◌≡◌, ◌<◌, ◌≤◌, ◌⊎◌, ◌↔◌, ◌∙◌, inl, inr, ℕ, suc, List, Option, Some, None, Result, Ok, Err, ap, arith}
+use Rattle.std.proofs.Common.{◌≡◌, ◌<◌, ◌≤◌, ◌⊎◌, ◌↔◌, ◌∙◌, inl, inr, ℕ, suc, List, Option, Some, None, Result, Ok, Err, ap, arith, subst, sym}
 use Rattle.std.proofs.Math.Nat.{lt_of_not-le}
 use Rattle.std.specs.Io.KnownBytes.{Keeps}
 use Rattle.mapping.specs.Image.{Image}
 use Rattle.canvas.specs.PpmReading.{read_ppm}
 use Rattle.draw_ops.specs.declared.fault.Fault.{Fault}
 use Rattle.draw_ops.specs.declared.fault.Fault.TheVariants.{BadImage, OutOfMemory, SurfaceTooLarge, WriteFault}
+use Rattle.draw_ops.specs.RuleSets.{in_force}
+use Rattle.draw_ops.specs.declared.rules.Rules.{Rules}
 use Rattle.meta_headers.specs.File.{IsOpenedFrom}
+use Rattle.meta_headers.specs.OpeningRules.{opened_by}
 use Rattle.preflight_cert.specs.Answer.{IsAnswer, accepted, rejects}
 use Rattle.preflight_cert.specs.CertificateOf.{certificate_of}
-use Rattle.preflight_cert.specs.CertificateReading.{read_certificate}
+use Rattle.preflight_cert.specs.CertificateReading.{read_certificate, rules_in}
 use Rattle.preflight_cert.specs.Refusal.{IsWantOfMemory}
-use Rattle.preflight_cert.specs.Run.{white}
+use Rattle.preflight_cert.specs.Run.{Run, shown, white}
 use Rattle.preflight_cert.specs.declared.certificate.Certificate.{Certificate}
 use Rattle.preflight_cert.specs.declared.cleared.Cleared.{Cleared}
 use Rattle.preflight_cert.specs.declared.refusal.Refusal.{Refusal}
@@ -28,11 +31,11 @@ use Rattle.commands.proofs.FailureLemmas.{kept, refusal_fails}
 
 pub played : (file bytes : List ℕ) (cleared : Cleared) (width height : ℕ) (start image : Image) → IsAnswer file bytes accepted → IsOpenedFrom file cleared.opened
     → read_certificate bytes ≡ Ok (certificate_of cleared.certificate) → IsWithinBound cleared.certificate width height
-    → Leaves cleared width height start image → IsPlayed file bytes width height start image
-played file bytes cleared width height start image accepts from read within leaves = record {
+    → cleared.opened.rules ≡ rules_in bytes → Leaves cleared width height start image → IsPlayed file bytes width height start image
+played file bytes cleared width height start image accepts from read within rules leaves = record {
   accepted = accepts;
   allowed = record { value = certificate_of cleared.certificate; read = read; wide = within.wide; high = within.high };
-  run = leaves file from;
+  run = subst (λ (r : Rules). Run r file width height start (shown image)) rules (leaves file from);
 }
 
 -- what the check rejects isn't played
@@ -44,16 +47,16 @@ check_fails file bytes width height r failure held (inl denies) by =
 check_fails file bytes width height r failure held (inr want) by = refusal_fails (play file bytes width height) r failure held (inr want) (kept held) by
 
 module _ (file bytes : List ℕ) (cleared : Cleared) (width height : ℕ) (accepts : IsAnswer file bytes accepted) (from : IsOpenedFrom file cleared.opened)
-    (read : read_certificate bytes ≡ Ok (certificate_of cleared.certificate)) where
+    (read : read_certificate bytes ≡ Ok (certificate_of cleared.certificate)) (rules : cleared.opened.rules ≡ rules_in bytes) where
   -- the text of what a cleared file draws on white is the text of the play
-  of_play : IsWithinBound cleared.certificate width height → (text : List ℕ) → IsRunText file width height (white width height) text
+  of_play : IsWithinBound cleared.certificate width height → (text : List ℕ) → IsRunText cleared.opened.rules file width height (white width height) text
       → IsPlayedText file bytes width height (white width height) text
   of_play within text run = record {
     image = run.image;
     played = record {
       accepted = accepts;
       allowed = record { value = certificate_of cleared.certificate; read = read; wide = within.wide; high = within.high };
-      run = run.run;
+      run = subst (λ (r : Rules). Run r file width height (white width height) (shown run.image)) rules run.run;
     };
     is_text = run.is_text;
   }
@@ -77,25 +80,41 @@ module _ (file bytes : List ℕ) (cleared : Cleared) (width height : ℕ) (accep
       record { text = p.written.text; fact = of_play p.within p.written.text (p.written.of_run file from); written = p.written.appended }
   play_fails contents old new why.OutOfMemory p = p
 
--- the same for a file that was prepared at the surface's size
-pub show_done :
-    {W : Type 0} → (file : List ℕ) (cleared : Cleared) (width height : ℕ) (contents : W → Option (List ℕ)) (old new : W) → IsOpenedFrom file cleared.opened
-    → WritesPlayed cleared width height (contents old) (contents new) → WritesDone (show file width height) contents old new
-show_done file cleared width height contents old new from p = record { text = p.written.text; fact = p.written.of_run file from; written = p.written.appended }
-
 -- a surface can't both be within a bound and exceed it
 never_both : (c : Certificate) (width height : ℕ) → IsWithinBound c width height → IsAboveBound width height c → ⊥
 never_both c width height within (inl less) = let h = within.wide in absurd (omega (arith, less, h))
 never_both c width height within (inr less) = let h = within.high in absurd (omega (arith, less, h))
 
-pub show_fails :
-    {W : Type 0} → (file : List ℕ) (cleared : Cleared) (width height : ℕ) (contents : W → Option (List ℕ)) (old new : W) (failure : Failure)
-    → IsOpenedFrom file cleared.opened → IsWithinBound cleared.certificate width height → FailsToPlay cleared width height contents old new failure
-    → Fails (show file width height) failure (contents old) (contents new)
-show_fails file cleared width height contents old new (why.Rejected r) from within p = absurd (never_both cleared.certificate width height within p.above.larger)
-show_fails file cleared width height contents old new why.CannotWrite from within p =
-    record { text = p.written.text; fact = p.written.of_run file from; written = p.written.appended }
-show_fails file cleared width height contents old new why.OutOfMemory from within p = p
+-- the same for a file that was prepared at the surface's size under given rules, of which some are in force
+module _ (rules : Rules) (file : List ℕ) (cleared : Cleared) (width height : ℕ) (from : IsOpenedFrom file cleared.opened)
+    (is : cleared.opened.rules ≡ in_force rules) (again : opened_by (in_force rules) file ≡ opened_by rules file) where
+  -- a run under the rules in force is one under the given rules
+  of_show : (text : List ℕ) → IsRunText cleared.opened.rules file width height (white width height) text → IsRunText rules file width height (white width height) text
+  of_show text run =
+      let forced = subst (λ (r : Rules). Run r file width height (white width height) (shown run.image)) is run.run in
+      record {
+        image = run.image;
+        run = record {
+          headers = forced.headers;
+          content = forced.content;
+          of_file = record { opens = sym again ∙ forced.of_file.opens; records = forced.of_file.records };
+          unstopped = forced.unstopped;
+          shows = forced.shows;
+        };
+        is_text = run.is_text;
+      }
+
+  pub show_done : {W : Type 0} → (contents : W → Option (List ℕ)) (old new : W) → WritesPlayed cleared width height (contents old) (contents new)
+      → WritesDone (show rules file width height) contents old new
+  show_done contents old new p = record { text = p.written.text; fact = of_show p.written.text (p.written.of_run file from); written = p.written.appended }
+
+  pub show_fails :
+      {W : Type 0} → (contents : W → Option (List ℕ)) (old new : W) (failure : Failure) → IsWithinBound cleared.certificate width height
+      → FailsToPlay cleared width height contents old new failure → Fails (show rules file width height) failure (contents old) (contents new)
+  show_fails contents old new (why.Rejected r) within p = absurd (never_both cleared.certificate width height within p.above.larger)
+  show_fails contents old new why.CannotWrite within p =
+      record { text = p.written.text; fact = of_show p.written.text (p.written.of_run file from); written = p.written.appended }
+  show_fails contents old new why.OutOfMemory within p = p
 
 at_most : (a b : ℕ) → (a < b → ⊥) → b ≤ a
 at_most a b never = let h : b < suc a = lt_of_not-le never in omega (arith, h)
@@ -169,10 +188,10 @@ over_surface_rejects file bytes image start cleared fault r accepts read shows (
 
 pub played_over : (file bytes image : List ℕ) (start after : Image) (cleared : Cleared) → IsAnswer file bytes accepted → IsOpenedFrom file cleared.opened
     → read_certificate bytes ≡ Ok (certificate_of cleared.certificate) → read_ppm image ≡ Some start
-    → IsWithinBound cleared.certificate start.width start.height → Leaves cleared start.width start.height start after
-    → IsPlayedOver file bytes image after
-played_over file bytes image start after cleared accepts from read shows within leaves = record {
+    → IsWithinBound cleared.certificate start.width start.height → cleared.opened.rules ≡ rules_in bytes
+    → Leaves cleared start.width start.height start after → IsPlayedOver file bytes image after
+played_over file bytes image start after cleared accepts from read shows within rules leaves = record {
   start = start;
   read = shows;
-  played = played file bytes cleared start.width start.height start after accepts from read within leaves;
+  played = played file bytes cleared start.width start.height start after accepts from read within rules leaves;
 }

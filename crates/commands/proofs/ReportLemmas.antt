@@ -3,6 +3,7 @@ use Rattle.std.proofs.Common.{◌≡◌, ◌∙◌, ◌⊎◌, inl, inr, ap, sub
 use Rattle.serde_json.specs.Data.{Data, boolean, no_members, put, string}
 use Rattle.serde_json.specs.Written.{has_float, members_have_float}
 use Rattle.mapping.specs.Surface.{Surface}
+use Rattle.draw_ops.specs.declared.rules.Rules.{Rules}
 use Rattle.draw_ops.specs.declared.fault.Fault.{Fault}
 use Rattle.draw_ops.specs.declared.fault.Fault.TheVariants.{OutOfMemory}
 use Rattle.dc_stack.specs.State.{start_of}
@@ -10,10 +11,11 @@ use Rattle.meta_headers.specs.File.{IsOpenedFrom}
 use Rattle.meta_headers.specs.Headers.{OpenedValue}
 use Rattle.meta_headers.specs.OpenedOf.{opened_of}
 use Rattle.meta_headers.specs.Opening.{HasContentOf, record_bytes}
-use Rattle.preflight_cert.specs.After.{file_notes}
+use Rattle.meta_headers.specs.OpeningRules.{opened_by}
+use Rattle.preflight_cert.specs.After.{file_notes, file_uses}
 use Rattle.preflight_cert.specs.Answer.{AnswerLaws, AnswersOpened, AnswersRead, CountsRecords, Fits, IsAnswer, RecordsAnswer, accepted, rejects}
 use Rattle.preflight_cert.specs.CertificateOf.{certificate_of}
-use Rattle.preflight_cert.specs.CertificateReading.{CertificateValue, read_certificate}
+use Rattle.preflight_cert.specs.CertificateReading.{CertificateValue, read_certificate, rules_in}
 use Rattle.preflight_cert.specs.Refusal.{IsWantOfMemory}
 use Rattle.preflight_cert.specs.EntriesOf.{entries_of}
 use Rattle.preflight_cert.specs.Drawings.{NumberedDrawing, drawings_of}
@@ -24,14 +26,16 @@ use Rattle.draw_ops.specs.Fault.{record_kind_of}
 use Rattle.draw_ops.specs.FaultTable.{fault_row}
 use Rattle.preflight_cert.specs.declared.cleared.Cleared.{Cleared}
 use Rattle.preflight_cert.specs.declared.refusal.Refusal.{Refusal}
+use Rattle.preflight_cert.specs.declared.uses.Uses.{Uses}
 use Rattle.meta_headers.specs.Formats.{format_name}
 use Rattle.report_parts.specs.Parts.{notes_data, pair, report_text, whole, whole_if}
-use Rattle.report_parts.specs.Whole.{if_whole, notes_whole, put_whole}
+use Rattle.report_parts.specs.Profile.{uses_data, with_profile}
+use Rattle.report_parts.specs.Whole.{allowed_whole, if_whole, notes_whole, profile_whole, put_whole, uses_whole}
 use Rattle.commands.specs.CheckReport.{ReportsAccepted, ReportsRejected, accepted_report, needs_data, rejected_report}
 use Rattle.commands.specs.ClearedFiles.{report_of}
 
-accepted_whole : (o : OpenedValue) (c : CertificateValue) (records drawings : ℕ) (notes : List ℕ) → has_float (accepted_report o c records drawings notes) ≡ false
-accepted_whole o c records drawings notes =
+accepted_whole : (o : OpenedValue) (c : CertificateValue) (records drawings : ℕ) (notes : List ℕ) (uses : Uses) → has_float (accepted_report o c records drawings notes uses) ≡ false
+accepted_whole o c records drawings notes uses =
     let m0 = put (codes "writes") (whole c.writes) no_members in
     let e0 : members_have_float m0 ≡ false = put_whole (codes "writes") (whole c.writes) no_members refl refl in
     let m1 = put (codes "records") (whole records) m0 in
@@ -50,11 +54,14 @@ accepted_whole o c records drawings notes =
     let e7 : members_have_float m7 ≡ false = put_whole (codes "drawings") (whole drawings) m6 refl e6 in
     let m8 = put (codes "accepted") (boolean true) m7 in
     let e8 : members_have_float m8 ≡ false = put_whole (codes "accepted") (boolean true) m7 refl e7 in
-    e8
+    let m9 = with_profile o.rules m8 in
+    let e9 : members_have_float m9 ≡ false = profile_whole o.rules m8 e8 in
+    allowed_whole o.rules (uses_data uses.held_deletion uses.emf_plus) m9 (uses_whole uses.held_deletion uses.emf_plus) e9
 
 pub report_whole : (cleared : Cleared) → has_float (report_of cleared) ≡ false
 report_whole cleared =
     accepted_whole (opened_of cleared.opened) (certificate_of cleared.certificate) cleared.records (length (entries_of cleared.certificate.entries)) cleared.notes.counts
+    cleared.uses
 
 pub rejected_whole : (number : Option ℕ) (fault : Fault) → has_float (rejected_report number fault) ≡ false
 rejected_whole number fault =
@@ -78,33 +85,35 @@ as_many s (one ∷ later) [] covered = absurd covered
 as_many s (one ∷ later) (entry ∷ entries) covered = let e = as_many s later entries covered.1 in rw e refl
 
 -- the answer of a check is one of the possible answers
-answered : (file bytes : List ℕ) (cleared : Cleared) → IsAnswer file bytes accepted → IsOpenedFrom file cleared.opened
+answered : (file bytes : List ℕ) (cleared : Cleared) → cleared.opened.rules ≡ rules_in bytes → IsAnswer file bytes accepted → IsOpenedFrom file cleared.opened
     → read_certificate bytes ≡ Ok (certificate_of cleared.certificate)
     → RecordsAnswer (opened_of cleared.opened) (record_bytes cleared.opened.format file) (certificate_of cleared.certificate) accepted
-answered file bytes cleared accepts from read =
+answered file bytes cleared rules accepts from read =
     let opens : AnswersRead (read_certificate bytes) (opened_of cleared.opened) (record_bytes cleared.opened.format file) accepted =
-    subst (λ (r : Result OpenedValue Fault). AnswersOpened r file bytes accepted) from.opens accepts in
+    subst (λ (r : Result OpenedValue Fault). AnswersOpened r file bytes accepted)
+    (ap (λ (r : Rules). opened_by r file) (sym rules) ∙ from.opens) accepts in
     subst (λ (r : Result CertificateValue Fault). AnswersRead r (opened_of cleared.opened) (record_bytes cleared.opened.format file) accepted) read opens
 
 same_report : (cleared : Cleared) (content : Content) → HasContentOf cleared.opened.format cleared.opened.records.now content
-    → CountsRecords (opened_of cleared.opened) cleared.opened.records.now cleared.records cleared.notes.counts
+    → CountsRecords (opened_of cleared.opened) cleared.opened.records.now cleared.records cleared.notes.counts cleared.uses
     → Fits (certificate_of cleared.certificate) (opened_of cleared.opened) content
     → report_of cleared
     ≡ accepted_report (opened_of cleared.opened) (certificate_of cleared.certificate) (length content.steps)
-    (length (drawings_of content.steps (start_of (opened_of cleared.opened)))) (file_notes content (opened_of cleared.opened))
+    (length (drawings_of content.steps (start_of (opened_of cleared.opened)))) (file_notes content (opened_of cleared.opened)) (file_uses content (opened_of cleared.opened))
 same_report cleared content has counts fits =
     let records = counts.all content has in
     let drawings = as_many _ _ _ fits.covered in
     let notes = counts.notes content has in
-    rw (records, drawings, notes) refl
+    let uses = counts.uses content has in
+    rw (records, drawings, notes, uses) refl
 
 -- what was checked, and its report, in terms of the file and the certificate
-pub reports : (file bytes : List ℕ) (cleared : Cleared) (text : List ℕ) → AnswerLaws → IsAnswer file bytes accepted → IsOpenedFrom file cleared.opened
+pub reports : (file bytes : List ℕ) (cleared : Cleared) (text : List ℕ) → AnswerLaws → cleared.opened.rules ≡ rules_in bytes → IsAnswer file bytes accepted → IsOpenedFrom file cleared.opened
     → read_certificate bytes ≡ Ok (certificate_of cleared.certificate)
-    → CountsRecords (opened_of cleared.opened) cleared.opened.records.now cleared.records cleared.notes.counts
+    → CountsRecords (opened_of cleared.opened) cleared.opened.records.now cleared.records cleared.notes.counts cleared.uses
     → text ≡ report_text (report_of cleared) → ReportsAccepted file bytes text
-reports file bytes cleared text laws accepts from read counts is =
-    let answer = answered file bytes cleared accepts from read in
+reports file bytes cleared text laws rules accepts from read counts is =
+    let answer = answered file bytes cleared rules accepts from read in
     let has : HasContentOf cleared.opened.format cleared.opened.records.now answer.content =
     subst (λ (records : List ℕ). HasContentOf cleared.opened.format records answer.content) (sym from.records) answer.of_records in
     let fits : Fits (certificate_of cleared.certificate) (opened_of cleared.opened) answer.content =
@@ -113,7 +122,7 @@ reports file bytes cleared text laws accepts from read counts is =
       accepted = accepts;
       headers = opened_of cleared.opened;
       content = answer.content;
-      of_file = record { opens = from.opens; records = answer.of_records };
+      of_file = record { opens = ap (λ (r : Rules). opened_by r file) (sym rules) ∙ from.opens; records = answer.of_records };
       value = certificate_of cleared.certificate;
       read = read;
       is_text = is ∙ ap report_text (same_report cleared answer.content has counts fits);

@@ -24,11 +24,11 @@ use Rattle.commands.specs.declared.failure.Failure.TheVariants as why
 abbrev pub report_of : Cleared → Data
 report_of cleared =
     accepted_report (opened_of cleared.opened) (certificate_of cleared.certificate) cleared.records
-    (length (entries_of cleared.certificate.entries)) cleared.notes.counts
+    (length (entries_of cleared.certificate.entries)) cleared.notes.counts cleared.uses
 
 -- the run of the opened file, at this size, makes the image from the start image
 abbrev pub Leaves : Cleared → ℕ → ℕ → Image → Image → Type 0
-Leaves cleared width height start image = (file : List ℕ) → IsOpenedFrom file cleared.opened → Run file width height start (shown image)
+Leaves cleared width height start image = (file : List ℕ) → IsOpenedFrom file cleared.opened → Run cleared.opened.rules file width height start (shown image)
 
 -- the surface exceeds the certificate's bound, and the fault says so
 pub record IsFaultAboveBound (c : Certificate) (width height : ℕ) (fault : Fault) : Type 0 where

@@ -22,27 +22,27 @@ use Rattle.commands.specs.declared.command_end.CommandEnd.TheVariants as end
 -- The text that a task writes when it is done: the image that the file's run makes on white, the prepared certificate,
 -- the report of an accepted one, or the listing of records that end with an end record.
 abbrev pub IsDoneBy : Task → List ℕ → Type 0
-IsDoneBy (show file width height) text = IsRunText file width height (white width height) text
-IsDoneBy (prepare file width height) text = Prepares file width height text
+IsDoneBy (show rules file width height) text = IsRunText rules file width height (white width height) text
+IsDoneBy (prepare rules file width height) text = Prepares rules file width height text
 IsDoneBy (check file certificate) text = ReportsAccepted file certificate text
 IsDoneBy (play file certificate width height) text = IsPlayedText file certificate width height (white width height) text
 IsDoneBy (over file certificate image) text = IsPlayedOverText file certificate image text
-IsDoneBy (list file) text = Lists file Ended text
+IsDoneBy (list rules file) text = Lists rules file Ended text
 
 -- The fault by which a task is rejected, in a record or in none. A listing reports faults itself, and is never
 -- rejected.
 abbrev pub IsRejectedBy : Task → Option ℕ → Fault → Type 0
-IsRejectedBy (show file width height) number fault = Rejected file width height number fault
-IsRejectedBy (prepare file width height) number fault = Rejected file width height number fault
+IsRejectedBy (show rules file width height) number fault = Rejected rules file width height number fault
+IsRejectedBy (prepare rules file width height) number fault = Rejected rules file width height number fault
 IsRejectedBy (check file certificate) number fault = IsAnswer file certificate (rejects number fault)
 IsRejectedBy (play file certificate width height) number fault = RejectsPlay file certificate width height number fault
 IsRejectedBy (over file certificate image) number fault = RejectsOver file certificate image number fault
-IsRejectedBy (list file) number fault = ⊥
+IsRejectedBy (list rules file) number fault = ⊥
 
 -- a text that a task writes if its output accepts it: that of a task that is done, or of a rejected check or listing
 abbrev pub IsTextOf : Task → List ℕ → Type 0
 IsTextOf (check file certificate) text = ReportsAccepted file certificate text ⊎ ReportsRejected file certificate text
-IsTextOf (list file) text = IsListing file text
+IsTextOf (list rules file) text = IsListing rules file text
 IsTextOf task text = IsDoneBy task text
 
 -- a text with some property was written
@@ -61,7 +61,7 @@ pub record WritesPrefix (holds : List ℕ → Type 0) (old new : Option (List �
 -- nothing
 abbrev pub WritesRejected : Task → Option (List ℕ) → Option (List ℕ) → Type 0
 WritesRejected (check file certificate) old new = WritesText (ReportsRejected file certificate) old new
-WritesRejected (list file) old new = WritesText (Lists file Broken) old new
+WritesRejected (list rules file) old new = WritesText (Lists rules file Broken) old new
 WritesRejected task old new = Keeps old new
 
 -- What a task has written to its output: its text and nothing else; a prefix of it if the output failed; nothing if an
@@ -83,7 +83,7 @@ pub record PrintsRefusal (task : Task) (printed : Printed) (old new : Option (Li
 -- what a rejected task reports on standard error: a check and a listing nothing, any other task its rejection
 abbrev pub PrintsRejected : Task → Printed → Option (List ℕ) → Option (List ℕ) → Type 0
 PrintsRejected (check file certificate) printed old new = PrintsNothing printed old new
-PrintsRejected (list file) printed old new = PrintsNothing printed old new
+PrintsRejected (list rules file) printed old new = PrintsNothing printed old new
 PrintsRejected task printed old new = PrintsRefusal task printed old new
 
 -- What a task reports on standard error: nothing if it is done, otherwise one line.
@@ -96,6 +96,13 @@ PrintsBy end.WrongUsage task printed old new = ⊥
 PrintsBy end.CannotRead task printed old new = ⊥
 
 module _ {W : Type 0} where
+  -- a text with some property, or a prefix of one, was written to a writer with these contents
+  abbrev pub WritesWith : (List ℕ → Type 0) → (W → Option (List ℕ)) → W → W → Type 0
+  WritesWith holds contents old new = WritesText holds (contents old) (contents new)
+
+  abbrev pub WritesPrefixWith : (List ℕ → Type 0) → (W → Option (List ℕ)) → W → W → Type 0
+  WritesPrefixWith holds contents old new = WritesPrefix holds (contents old) (contents new)
+
   -- a task is done, and its text was written to a writer with these contents
   abbrev pub WritesDone : Task → (W → Option (List ℕ)) → W → W → Type 0
   WritesDone task contents old new = WritesText (IsDoneBy task) (contents old) (contents new)

@@ -6,7 +6,7 @@ use Rattle.mapping.specs.Image.{Image}
 use Rattle.canvas.specs.Ppm.{ppm_text}
 use Rattle.canvas.specs.PpmReading.{read_ppm}
 use Rattle.preflight_cert.specs.Answer.{IsAnswer, accepted, rejects}
-use Rattle.preflight_cert.specs.CertificateReading.{CertificateValue, read_certificate}
+use Rattle.preflight_cert.specs.CertificateReading.{CertificateValue, read_certificate, rules_in}
 use Rattle.preflight_cert.specs.Run.{Run, shown}
 
 -- the bytes are a certificate for surfaces of this size
@@ -22,12 +22,12 @@ pub record Excludes (certificate : List ℕ) (width height : ℕ) : Type 0 where
   pub read : read_certificate certificate ≡ Ok value
   pub larger : value.max_width < width ⊎ value.max_height < height
 
--- The certificate is accepted for the file and allows the surface, and the file's run makes the image from the start
--- image.
+-- The certificate is accepted for the file and allows the surface, and the file's run under the certificate's rules makes
+-- the image from the start image.
 pub record IsPlayed (file certificate : List ℕ) (width height : ℕ) (start image : Image) : Type 0 where
   pub accepted : IsAnswer file certificate accepted
   pub allowed : Allows certificate width height
-  pub run : Run file width height start (shown image)
+  pub run : Run (rules_in certificate) file width height start (shown image)
 
 -- the text is the P6 text of the image that the file's run makes from the start image
 pub record IsPlayedText (file certificate : List ℕ) (width height : ℕ) (start : Image) (text : List ℕ) : Type 0 where

@@ -13,6 +13,7 @@ use Rattle.commands.specs.VersionLines.{VersionPrints, VersionWrites}
 use Rattle.commands.specs.declared.program.Call.{Call}
 use Rattle.command_lines.specs.VersionWords.{AreVersionWords}
 use Rattle.command_lines.specs.Dimensions.{HoldsOfSome, file_of}
+use Rattle.draw_ops.specs.declared.rules.Rules.{Rules}
 use Rattle.meta_headers.specs.Opening.{opened}
 use Rattle.commands.specs.Tasks.{Task, check, list, over, play, prepare, show}
 use Rattle.commands.specs.declared.command_end.Completion.{Completion}
@@ -24,23 +25,24 @@ use Rattle.commands.specs.declared.inputs.Inputs.{Inputs}
 
 -- a certificate is prepared of a named file
 abbrev pub PreparesNamedFile : CommandLine → Type 0
-PreparesNamedFile (Prepare name width height output) = name.now ≡ standard_input → ⊥
+PreparesNamedFile (Prepare name rules width height output) = name.now ≡ standard_input → ⊥
 PreparesNamedFile line = ⊥
 
 -- the task of a command line, if its file, certificate and image have these bytes
 abbrev pub task_of : CommandLine → List ℕ → List ℕ → List ℕ → Task
-task_of (Show name width height fit) file certificate image = show file (asked_width fit (opened file) width height) (asked_height fit (opened file) width height)
-task_of (Prepare name width height output) file certificate image = prepare file width height
+task_of (Show name rules width height fit) file certificate image =
+    show rules file (asked_width fit (opened file) width height) (asked_height fit (opened file) width height)
+task_of (Prepare name rules width height output) file certificate image = prepare rules file width height
 task_of (Check name other) file certificate image = check file certificate
 task_of (Play name other width height bands fit) file certificate image =
     play file certificate (asked_width fit (opened file) width height) (asked_height fit (opened file) width height)
 task_of (Over name other third) file certificate image = over file certificate image
-task_of (ListLine name) file certificate image = list file
+task_of (ListLine name rules) file certificate image = list rules file
 
 -- what a command line's task writes to standard output: a prepared certificate writes nothing there, because it goes to
 -- a file
 abbrev pub LineWrites : CommandLine → Task → CommandEnd → Option (List ℕ) → Option (List ℕ) → Type 0
-LineWrites (Prepare name width height output) task end old new = Keeps old new
+LineWrites (Prepare name rules width height output) task end old new = Keeps old new
 LineWrites line task end old new = WritesBy end task old new
 
 -- the task of a command line wrote this to standard output, for some bytes of its inputs
@@ -79,40 +81,40 @@ ErrBy end.OutOfMemory line input printed old new = Reports printed old new (code
 ErrBy end.WrongUsage line input printed old new = PreparesNamedFile line × Reports printed old new (codes "OUT is FILE")
 
 -- something holds for what the words ask for: a command on one file, information about files, or the version
-abbrev pub HoldsOfWords : List Text → (CommandLine → Type 0) → (List Text → Type 0) → Type 0 → Type 0
+abbrev pub HoldsOfWords : List Text → (CommandLine → Type 0) → (List Text → Rules → Type 0) → Type 0 → Type 0
 HoldsOfWords words of_line of_names of_version = HoldsOfAsked words of_line ⊎ (HoldsOfNames words of_names ⊎ (AreVersionWords words × of_version))
 
 -- something holds for one of these
-abbrev pub HoldsOfAny : (CommandLine → Type 0) → (List Text → Type 0) → Type 0 → Type 0
+abbrev pub HoldsOfAny : (CommandLine → Type 0) → (List Text → Rules → Type 0) → Type 0 → Type 0
 HoldsOfAny of_line of_names of_version = HoldsOfSome of_line ⊎ (HoldsOfSomeNames of_names ⊎ of_version)
 
 -- What the program writes to standard output for its words: anything if they are wrong usage, otherwise what the
 -- command that they ask for writes. If an allocation failed, only `info` may have written something.
 abbrev pub OutOfWords : CommandEnd → List Text → Option (List ℕ) → List ℕ → Option (List ℕ) → Option (List ℕ) → Type 0
 OutOfWords end.WrongUsage words input version old new = ⊤
-OutOfWords end.OutOfMemory words input version old new = Keeps old new ⊎ HoldsOfNames words (λ names. InfoWrites end.OutOfMemory names input old new)
+OutOfWords end.OutOfMemory words input version old new = Keeps old new ⊎ HoldsOfNames words (λ names rules. InfoWrites end.OutOfMemory names rules input old new)
 OutOfWords end words input version old new =
-    HoldsOfWords words (λ line. OutBy end line input old new) (λ names. InfoWrites end names input old new) (VersionWrites end version old new)
+    HoldsOfWords words (λ line. OutBy end line input old new) (λ names rules. InfoWrites end names rules input old new) (VersionWrites end version old new)
 
 -- What the program reports on standard error for its words.
 abbrev pub ErrOfWords : CommandEnd → List Text → Option (List ℕ) → Printed → Option (List ℕ) → Option (List ℕ) → Type 0
 ErrOfWords end.WrongUsage words input printed old new = ⊤
 ErrOfWords end.OutOfMemory words input printed old new = Reports printed old new (codes "OutOfMemory")
 ErrOfWords end words input printed old new =
-    HoldsOfWords words (λ line. ErrBy end line input printed old new) (λ names. InfoPrints end printed old new) (VersionPrints end printed old new)
+    HoldsOfWords words (λ line. ErrBy end line input printed old new) (λ names rules. InfoPrints end printed old new) (VersionPrints end printed old new)
 
 -- what the program writes to standard output, or reports on standard error, for some words
 abbrev pub OutOfSome : CommandEnd → Option (List ℕ) → List ℕ → Option (List ℕ) → Option (List ℕ) → Type 0
 OutOfSome end.WrongUsage input version old new = ⊤
-OutOfSome end.OutOfMemory input version old new = Keeps old new ⊎ HoldsOfSomeNames (λ names. InfoWrites end.OutOfMemory names input old new)
+OutOfSome end.OutOfMemory input version old new = Keeps old new ⊎ HoldsOfSomeNames (λ names rules. InfoWrites end.OutOfMemory names rules input old new)
 OutOfSome end input version old new =
-    HoldsOfAny (λ line. OutBy end line input old new) (λ names. InfoWrites end names input old new) (VersionWrites end version old new)
+    HoldsOfAny (λ line. OutBy end line input old new) (λ names rules. InfoWrites end names rules input old new) (VersionWrites end version old new)
 
 abbrev pub ErrOfSome : CommandEnd → Option (List ℕ) → Printed → Option (List ℕ) → Option (List ℕ) → Type 0
 ErrOfSome end.WrongUsage input printed old new = ⊤
 ErrOfSome end.OutOfMemory input printed old new = Reports printed old new (codes "OutOfMemory")
 ErrOfSome end input printed old new =
-    HoldsOfAny (λ line. ErrBy end line input printed old new) (λ names. InfoPrints end printed old new) (VersionPrints end printed old new)
+    HoldsOfAny (λ line. ErrBy end line input printed old new) (λ names rules. InfoPrints end printed old new) (VersionPrints end printed old new)
 
 -- the words prepare a certificate of a named file
 abbrev pub PreparesNamed : Call → Type 0

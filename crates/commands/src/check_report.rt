@@ -1,14 +1,18 @@
 //! The report of a check, as JSON.
 
-ghost use Rattle.std.specs.Prelude.{◌≡◌, IfOk};
-ghost use Rattle.serde_json.specs.View.{view};
+ghost use Rattle.std.specs.Prelude.{◌≡◌, IfOk, OnOk};
+ghost use Rattle.serde_json.specs.View.{members_view, view};
 ghost use Rattle.report_parts.specs.Parts.{report_text};
-ghost use Rattle.commands.specs.CheckReport.{needs_data, rejected_report};
+ghost use Rattle.commands.specs.CheckReport.{needs_data, rejected_report, with_used};
 ghost use Rattle.commands.specs.ClearedFiles.{report_of};
 
 use dc_stack::Needs;
-use preflight_cert::{Cleared, Refusal};
-use report_parts::{notes_value, pair_value, put_number, put_number_if, put_text, report_text_of};
+use draw_ops::Rules;
+use preflight_cert::{Cleared, Refusal, Uses};
+use report_parts::{
+    notes_value, pair_value, put_allowed, put_number, put_number_if, put_profile, put_text,
+    report_text_of, uses_value,
+};
 use serde_json::{Map, Value, json, put};
 use std::alloc::{AllocError, Global};
 
@@ -44,7 +48,22 @@ fn accepted_value(alloc: Global, cleared: &Cleared<'_>) -> Result<Value, AllocEr
     put_text(&mut members, alloc, "format", format)?;
     put_number(&mut members, alloc, "drawings", certificate.len() as u64)?;
     put(&mut members, alloc, "accepted", Value::from(true))?;
+    put_used(&mut members, alloc, cleared.opened.rules, cleared.uses)?;
     Ok(Value::from(members))
+}
+
+/// Under the print profile, adds the profile, and what a file uses of what the rules allow.
+fn put_used(
+    members: &mut Map<String, Value>,
+    alloc: Global,
+    rules: Rules,
+    uses: Uses,
+) -> Result<(), AllocError>
+    ensures { OnOk result (members_view members.new.entries ≡ with_used rules uses (members_view members.old.entries)) }
+{
+    let used = uses_value(alloc, uses.held_deletion, uses.emf_plus)?;
+    put_profile(members, alloc, rules)?;
+    put_allowed(members, alloc, rules, used)
 }
 
 /// The needs, by name.

@@ -9,6 +9,7 @@ ghost use Rattle.commands.specs.Inputs.{standard_input};
 use crate::command_end::CommandEnd;
 use crate::input::InputFault;
 use crate::inputs::read_file;
+use draw_ops::Rules;
 use file_info::{Playing, file_info, info_text, unread_text};
 use std::alloc::{AllocError, Global};
 use std::io::Read;
@@ -25,31 +26,37 @@ pub(crate) struct FileLine {
 /// returned only if there is no memory for that.
 pub(crate) fn file_line<R: Files + AllocGlobal, I: Read>(
     rt: &R,
+    rules: Rules,
     name: &str,
     input: &mut I,
 ) -> Result<FileLine, AllocError>
-    ensures line { IfOk result (λ line. IsLineBy line.end name.entry.now (I.remaining input.old) line.text.items) }
+    ensures line { IfOk result (λ it. IsLineBy it.end rules name.entry.now (I.remaining input.old) it.text.items) }
     ensures unread { name.entry.now ≢ standard_input → Keeps (I.remaining input.old) (I.remaining input.new) }
 {
     match read_file(rt, name, input) {
-        Ok(file) => line_of_bytes(rt.alloc(), name, file.as_slice()),
-        Err(fault) => unread(rt.alloc(), name, fault),
+        Ok(file) => line_of_bytes(rt.alloc(), rules, name, file.as_slice()),
+        Err(fault) => unread(rt.alloc(), rules, name, fault),
     }
 }
 
 /// The line about a file with these bytes.
-fn line_of_bytes(alloc: Global, name: &str, file: &[u8]) -> Result<FileLine, AllocError>
-    ensures { IfOk result (λ line. IsLineOfBytes line.end name.now file.now line.text.items) }
+fn line_of_bytes(
+    alloc: Global,
+    rules: Rules,
+    name: &str,
+    file: &[u8],
+) -> Result<FileLine, AllocError>
+    ensures { IfOk result (λ line. IsLineOfBytes line.end rules name.now file.now line.text.items) }
 {
-    let Ok(info) = file_info(alloc, file) else {
-        return unread(alloc, name, InputFault::OutOfMemory);
+    let Ok(info) = file_info(alloc, rules, file) else {
+        return unread(alloc, rules, name, InputFault::OutOfMemory);
     };
     match info_text(alloc, name, &info) {
         Ok(text) => Ok(FileLine {
             text,
             end: end_of(info.playing),
         }),
-        Err(_) => unread(alloc, name, InputFault::OutOfMemory),
+        Err(_) => unread(alloc, rules, name, InputFault::OutOfMemory),
     }
 }
 
@@ -65,11 +72,16 @@ fn end_of(playing: Playing) -> CommandEnd
 }
 
 /// The line about a file that wasn't read in full.
-fn unread(alloc: Global, name: &str, fault: InputFault) -> Result<FileLine, AllocError>
-    ensures { IfOk result (λ line. IsUnreadLine name.now line.end line.text.items) }
+fn unread(
+    alloc: Global,
+    rules: Rules,
+    name: &str,
+    fault: InputFault,
+) -> Result<FileLine, AllocError>
+    ensures { IfOk result (λ line. IsUnreadLine rules name.now line.end line.text.items) }
 {
     Ok(FileLine {
-        text: unread_text(alloc, name, fault.text())?,
+        text: unread_text(alloc, rules, name, fault.text())?,
         end: fault.end(),
     })
 }

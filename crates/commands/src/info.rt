@@ -8,16 +8,18 @@ use crate::command_end::{CommandEnd, Completion};
 use crate::file_line::file_line;
 use crate::reporting::report;
 use canvas::{FaultCount, WriteFault, flush_sent, send_counted};
+use draw_ops::Rules;
 use std::io::Read;
 use std::rt::Files;
 
-/// Writes one line of JSON about each file to `out`, in the order of the names. Files are read one at a time. The
-/// command ends as the worst of the files does: `Rejected` if one doesn't play, `CannotRead` if one can't be read, and
-/// `OutOfMemory` if there isn't enough memory for one. Then the other files still have their lines, unless there is no
-/// memory even for a line.
+/// Writes one line of JSON about each file under these rules to `out`, in the order of the names. Files are read one at
+/// a time. The command ends as the worst of the files does: `Rejected` if one doesn't play, `CannotRead` if one can't be
+/// read, and `OutOfMemory` if there isn't enough memory for one. Then the other files still have their lines, unless
+/// there is no memory even for a line.
 #[inline(never)]
 pub fn info_command<R, I, O, E>(
     rt: &R,
+    rules: Rules,
     names: &[&str],
     input: &mut I,
     out: &mut O,
@@ -31,13 +33,13 @@ where
     requires once { HasOneInput (names_in names.now) }
     requires capacity_out { O.fault_count out.old < 2 ^ 64 - 1 }
     requires capacity_err { E.fault_count err.old < 2 ^ 64 - 1 }
-    ensures written { WritesInfo (names_in names.now) (I.remaining input.old) result.end O.contents out.old out.new }
+    ensures written { WritesInfo names.now rules (I.remaining input.old) result.end O.contents out.old out.new }
     ensures printed { PrintsInfo result.end result.printed E.contents err.old err.new }
     ensures cannot_write { result.end ≡ CommandEnd.CannotWrite → O.fault_count out.old < O.fault_count out.new }
     ensures flushed { result.end ≡ CommandEnd.Done → O.is_flushed out.new ≡ true }
     ensures unreported { OnErr result.printed (E.fault_count err.old < E.fault_count err.new) }
 {
-    let end = send_lines(rt, names, input, out);
+    let end = send_lines(rt, rules, names, input, out);
     Completion {
         end,
         printed: report_end(end, err),
@@ -61,19 +63,20 @@ fn report_end<E: FaultCount>(end: CommandEnd, err: &mut E) -> Result<(), WriteFa
 /// Writes the lines of the files and flushes the writer. Returns how the worst of them ends.
 fn send_lines<R: Files + AllocGlobal, I: Read, O: FaultCount>(
     rt: &R,
+    rules: Rules,
     names: &[&str],
     input: &mut I,
     out: &mut O,
 ) -> CommandEnd
     requires once { HasOneInput (names_in names.now) }
     requires capacity { O.fault_count out.old < 2 ^ 64 - 1 }
-    ensures written { WritesInfo (names_in names.now) (I.remaining input.old) result O.contents out.old out.new }
+    ensures written { WritesInfo names.now rules (I.remaining input.old) result O.contents out.old out.new }
     ensures fault { result ≡ CommandEnd.CannotWrite → O.fault_count out.old < O.fault_count out.new }
     ensures flushed { result ≡ CommandEnd.Done → O.is_flushed out.new ≡ true }
 {
     let mut end = CommandEnd::Done;
     for name in names {
-        let Ok(line) = file_line(rt, name, input) else {
+        let Ok(line) = file_line(rt, rules, name, input) else {
             return CommandEnd::OutOfMemory;
         };
         let Ok(()) = send_counted(out, line.text.as_slice()) else {

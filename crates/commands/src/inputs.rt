@@ -67,7 +67,7 @@ fn file_of<'a>(line: CommandLine<'a>) -> &'a str
         CommandLine::Check { file, .. } => file,
         CommandLine::Play { file, .. } => file,
         CommandLine::Over { file, .. } => file,
-        CommandLine::List { file } => file,
+        CommandLine::List { file, .. } => file,
     }
 }
 

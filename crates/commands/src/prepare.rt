@@ -1,8 +1,9 @@
 //! The command `prepare`.
 
 ghost use Rattle.std.specs.Prelude.{◌≡◌, ◌-◌, ◌^◌, ◌<◌, IfErr, OnErr, OnOk, true};
+ghost use Rattle.draw_ops.specs.RuleSets.{core_rules};
 ghost use Rattle.mapping.specs.Limits.{IsSurfaceSide};
-ghost use Rattle.commands.specs.Ends.{IsDoneBy, Prints, Writes, WritesText};
+ghost use Rattle.commands.specs.Ends.{Prints, Writes, WritesDone};
 ghost use Rattle.preflight_cert.specs.Reached.{Opens};
 ghost use Rattle.commands.specs.Failures.{FailsWith};
 ghost use Rattle.commands.specs.Tasks.{prepare};
@@ -13,11 +14,11 @@ use crate::output::NamedOutput;
 use crate::preparing::prepare_file;
 use crate::reporting::report;
 use canvas::{Counting, FaultCount, send_finished};
+use draw_ops::Rules;
 use std::alloc::Global;
 use std::rt::Files;
 
-/// Prepares a file's certificate for surfaces of at most this size, and writes it to `out` after the whole file has
-/// been examined. If the file is rejected, one line goes to `err`. A fault of `err` doesn't change the status.
+/// The same as `prepare_command_by`, under the core rules.
 pub fn prepare_command<O: FaultCount, E: FaultCount>(
     alloc: Global,
     file: &[u8],
@@ -30,20 +31,47 @@ pub fn prepare_command<O: FaultCount, E: FaultCount>(
     requires high { IsSurfaceSide height }
     requires capacity_out { O.fault_count out.old < 2 ^ 64 - 1 }
     requires capacity_err { E.fault_count err.old < 2 ^ 64 - 1 }
-    ensures written { Writes (prepare file.now width height) result O.contents out.old out.new }
-    ensures printed { Prints (prepare file.now width height) result E.contents err.old err.new }
+    ensures written { Writes (prepare core_rules file.now width height) result O.contents out.old out.new }
+    ensures printed { Prints (prepare core_rules file.now width height) result E.contents err.old err.new }
     ensures memory { result.end ≡ CommandEnd.OutOfMemory → Opens file.now }
     ensures cannot_write { result.end ≡ CommandEnd.CannotWrite → O.fault_count out.old < O.fault_count out.new }
     ensures unreported { OnErr result.printed (E.fault_count err.old < E.fault_count err.new) }
     ensures flushed { result.end ≡ CommandEnd.Done → O.is_flushed out.new ≡ true }
 {
-    let done = write_prepared(alloc, file, width, height, out);
+    prepare_command_by(alloc, Rules::CORE, file, width, height, out, err)
+}
+
+/// Prepares a file's certificate under these rules for surfaces of at most this size, and writes it to `out` after the
+/// whole file has been examined. If the file is rejected, one line goes to `err`. A fault of `err` doesn't change the
+/// status.
+pub fn prepare_command_by<O: FaultCount, E: FaultCount>(
+    alloc: Global,
+    rules: Rules,
+    file: &[u8],
+    width: u32,
+    height: u32,
+    out: &mut O,
+    err: &mut E,
+) -> Completion
+    requires wide { IsSurfaceSide width }
+    requires high { IsSurfaceSide height }
+    requires capacity_out { O.fault_count out.old < 2 ^ 64 - 1 }
+    requires capacity_err { E.fault_count err.old < 2 ^ 64 - 1 }
+    ensures written { Writes (prepare rules file.now width height) result O.contents out.old out.new }
+    ensures printed { Prints (prepare rules file.now width height) result E.contents err.old err.new }
+    ensures memory { result.end ≡ CommandEnd.OutOfMemory → Opens file.now }
+    ensures cannot_write { result.end ≡ CommandEnd.CannotWrite → O.fault_count out.old < O.fault_count out.new }
+    ensures unreported { OnErr result.printed (E.fault_count err.old < E.fault_count err.new) }
+    ensures flushed { result.end ≡ CommandEnd.Done → O.is_flushed out.new ≡ true }
+{
+    let done = write_prepared(alloc, rules, file, width, height, out);
     ending(done, err)
 }
 
 /// Prepares a file's certificate for surfaces of at most this size, and writes it.
 fn write_prepared<O: FaultCount>(
     alloc: Global,
+    rules: Rules,
     file: &[u8],
     width: u32,
     height: u32,
@@ -52,13 +80,13 @@ fn write_prepared<O: FaultCount>(
     requires wide { IsSurfaceSide width }
     requires high { IsSurfaceSide height }
     requires capacity { O.fault_count out.old < 2 ^ 64 - 1 }
-    ensures done { OnOk result (WritesText (IsDoneBy (prepare file.now width height)) (O.contents out.old) (O.contents out.new)) }
-    ensures failed { IfErr result (FailsWith (prepare file.now width height) O.contents out.old out.new) }
+    ensures done { OnOk result (WritesDone (prepare rules file.now width height) O.contents out.old out.new) }
+    ensures failed { IfErr result (FailsWith (prepare rules file.now width height) O.contents out.old out.new) }
     ensures memory { IfErr result (λ failure. failure ≡ Failure.OutOfMemory → Opens file.now) }
     ensures fault { IfErr result (λ failure. failure ≡ Failure.CannotWrite → O.fault_count out.old < O.fault_count out.new) }
     ensures flushed { OnOk result (O.is_flushed out.new ≡ true) }
 {
-    let prepared = match prepare_file(alloc, file, width, height) {
+    let prepared = match prepare_file(alloc, rules, file, width, height) {
         Ok(prepared) => prepared,
         Err(refusal) => return Err(failure_of(refusal)),
     };
@@ -72,6 +100,7 @@ fn write_prepared<O: FaultCount>(
 #[inline(never)]
 pub(crate) fn prepare_to_file<R: Files + AllocGlobal, E: FaultCount>(
     rt: &R,
+    rules: Rules,
     file: &[u8],
     width: u32,
     height: u32,
@@ -81,7 +110,7 @@ pub(crate) fn prepare_to_file<R: Files + AllocGlobal, E: FaultCount>(
     requires wide { IsSurfaceSide width }
     requires high { IsSurfaceSide height }
     requires capacity { E.fault_count err.old < 2 ^ 64 - 1 }
-    ensures printed { Prints (prepare file.now width height) result E.contents err.old err.new }
+    ensures printed { Prints (prepare rules file.now width height) result E.contents err.old err.new }
     ensures unreported { OnErr result.printed (E.fault_count err.old < E.fault_count err.new) }
 {
     let Ok(output) = NamedOutput::new(rt, name) else {
@@ -91,7 +120,7 @@ pub(crate) fn prepare_to_file<R: Files + AllocGlobal, E: FaultCount>(
         };
     };
     let mut output = Counting::new(output);
-    let answer = prepare_command(rt.alloc(), file, width, height, &mut output, err);
+    let answer = prepare_command_by(rt.alloc(), rules, file, width, height, &mut output, err);
     output.into_writer().remove_unfinished();
     answer
 }

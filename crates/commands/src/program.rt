@@ -18,13 +18,13 @@ use crate::fitting::asked_sides;
 use crate::info::info_command;
 use crate::input::InputFault;
 use crate::inputs::{Inputs, read_inputs};
-use crate::list::list_command;
+use crate::list::list_command_by;
 use crate::over::over_command;
 use crate::play::play_command;
 use crate::prepare::prepare_to_file;
 use crate::reporting::report;
 use crate::same_file::replaces_its_file;
-use crate::show::show_command;
+use crate::show::show_command_by;
 use crate::shown::show_error;
 use crate::version::version_command;
 use canvas::FaultCount;
@@ -106,7 +106,9 @@ where
 {
     match line(rt.alloc(), call.words) {
         Ok(Asked::Command(line)) => perform(rt, line, input, out, err),
-        Ok(Asked::Info(names)) => info_command(rt, names.as_slice(), input, out, err),
+        Ok(Asked::Info { names, rules }) => {
+            info_command(rt, rules, names.as_slice(), input, out, err)
+        }
         Ok(Asked::Version) => version_command(call.version, out, err),
         Err(error) => usage(&error, out, err),
     }
@@ -178,20 +180,22 @@ fn run_task<R: Files + AllocGlobal, O: FaultCount, E: FaultCount>(
     let (file, certificate) = (inputs.file.as_slice(), inputs.certificate.as_slice());
     match line {
         CommandLine::Show {
+            rules,
             width,
             height,
             fit,
             ..
         } => {
             let Sides { width, height } = asked_sides(file, width, height, fit);
-            show_command(rt.alloc(), file, width, height, out, err)
+            show_command_by(rt.alloc(), rules, file, width, height, out, err)
         }
         CommandLine::Prepare {
+            rules,
             width,
             height,
             output,
             ..
-        } => { prepare_to_file(rt, file, width, height, output, err) }
+        } => { prepare_to_file(rt, rules, file, width, height, output, err) }
         CommandLine::Check { .. } => check_command(rt.alloc(), file, certificate, out, err),
         CommandLine::Play {
             width,
@@ -208,7 +212,7 @@ fn run_task<R: Files + AllocGlobal, O: FaultCount, E: FaultCount>(
             let image = inputs.image.as_slice();
             over_command(rt.alloc(), file, certificate, image, out, err)
         }
-        CommandLine::List { .. } => list_command(rt.alloc(), file, out, err),
+        CommandLine::List { rules, .. } => list_command_by(rt.alloc(), rules, file, out, err),
     }
 }
 

@@ -15,6 +15,9 @@ pub mod FaultLemmas
 pub mod FaultOrder
 pub mod SavedLemmas
 pub mod WorkedStart
+pub mod CreationLemmas
+pub mod DeletionLemmas
+pub mod WorkedDeletions
 pub mod WorkedRows
 pub mod WorkedClips
 pub mod WorkedDrawings

@@ -7,7 +7,7 @@ use Rattle.std.specs.Int.{int_max, int_min}
 use Rattle.std.specs.List.{list_all}
 use Rattle.mapping.specs.Boxes.{HasPoint, IsBoxOver, IsBoundingBox, IsTight, KeepsBetween, no_box, point_box, box_between, right_bottom_of, mapped_by, left_top_of}
 use Rattle.mapping.specs.BoxLaws.{BoxLaws}
-use Rattle.mapping.specs.PageMap.{axis_numbers, map_numbers}
+use Rattle.mapping.specs.PageMap.{map_numbers}
 use Rattle.mapping.specs.LimitTests.{TestsAreLimits}
 use Rattle.mapping.specs.Limits.{is_within, plane_limit}
 use Rattle.mapping.specs.Plane.{is_on_plane, plane_coordinate}
@@ -31,21 +31,21 @@ and_true false b = refl
 
 -- a page map keeps what lies between two coordinates
 module _ (laws : BoxLaws) (map : PageMap) (box : Rect) (points : List Point) (tight : IsTight box points) where
-  of_x : KeepsBetween (plane_coordinate (axis_numbers map.x))
-  of_x = laws.page_map (axis_numbers map.x) map.x.window_has_extent
+  of_x : KeepsBetween (plane_coordinate (map_numbers map).x)
+  of_x = laws.page_map (map_numbers map).x map.x.window_has_extent
 
-  of_y : KeepsBetween (plane_coordinate (axis_numbers map.y))
-  of_y = laws.page_map (axis_numbers map.y) map.y.window_has_extent
+  of_y : KeepsBetween (plane_coordinate (map_numbers map).y)
+  of_y = laws.page_map (map_numbers map).y map.y.window_has_extent
 
   -- so the least box is mapped to the least one
   tight_on_plane : IsTight (mapped_box (map_numbers map) box) (plane_list map points)
-  tight_on_plane = laws.boxes (plane_coordinate (axis_numbers map.x)) (plane_coordinate (axis_numbers map.y)) box points of_x of_y tight
+  tight_on_plane = laws.boxes (plane_coordinate (map_numbers map).x) (plane_coordinate (map_numbers map).y) box points of_x of_y tight
 
   -- and all points land exactly where two of its corners do
   pub off_by_corners : (s : Surface) → ShowsFrame s → off_plane_fault (mapped_corners (map_numbers map) box) s ≡ off_plane_fault (plane_list map points) s
   off_by_corners s shows =
-      let x = plane_coordinate (axis_numbers map.x) in
-      let y = plane_coordinate (axis_numbers map.y) in
+      let x = plane_coordinate (map_numbers map).x in
+      let y = plane_coordinate (map_numbers map).y in
       let near = lands_within_limits (mapped_by x y (left_top_of box)) s in
       let far = lands_within_limits (mapped_by x y (right_bottom_of box)) s in
       and_true near far ∙ ap off_unless (sym (laws.lands x y s box points shows of_x of_y tight))

@@ -2,6 +2,7 @@
 use Rattle.std.proofs.Common.{◌≡◌, ◌+◌, ◌-◌, ◌^◌, pos, negsuc, List, [], ◌∷◌, ◌++◌, length, map, replicate, Some, None, refl}
 use Rattle.draw_ops.specs.Objects.{ObjectValue, brush_object, font_object, null_brush, palette_object, pen_object, solid_brush}
 use Rattle.draw_ops.specs.Operation.{Operation, create, delete, move_to, offset_window_origin, pixel, restore, save, select, select_palette, set_map_mode, set_window_extent}
+use Rattle.draw_ops.specs.RuleSets.{core_rules}
 use Rattle.draw_ops.specs.declared.record_fault.RecordFault.TheVariants.{DepthLimit, HeldObject, NoSavedState, NoSuchHandle, OffPlane, WrongKind, ZeroExtent}
 use Rattle.draw_ops.specs.declared.objects.Pen.TheVariants.{Null, Solid}
 use Rattle.mapping.specs.Colours.{black_colour, white_colour}
@@ -380,7 +381,7 @@ create_needs : needs_of (create None font_object) (played (create None font_obje
 create_needs = refl
 
 -- an object at the index 9 needs ten
-create_needs_its_index : needs_of (create (Some 9) font_object) (start_state (unscaled_map (at (pos 0) (pos 0))) (by_given_index 10)) ≡ record { depth = 0; slots = 10; edges = 0; pieces = 0 }
+create_needs_its_index : needs_of (create (Some 9) font_object) (start_state core_rules (unscaled_map (at (pos 0) (pos 0))) (by_given_index 10)) ≡ record { depth = 0; slots = 10; edges = 0; pieces = 0 }
 create_needs_its_index = refl
 
 -- the second save needs room for two states
@@ -392,9 +393,9 @@ pixel_needs : needs_of (pixel (at (pos 0) (pos 0)) black_colour) start ≡ no_ne
 pixel_needs = refl
 
 -- with a count of 10 an object may have the index 9
-create_9 : fault_of (create (Some 9) font_object) (start_state (unscaled_map (at (pos 0) (pos 0))) (by_given_index 10)) four ≡ None
+create_9 : fault_of (create (Some 9) font_object) (start_state core_rules (unscaled_map (at (pos 0) (pos 0))) (by_given_index 10)) four ≡ None
 create_9 = refl
 
 -- and not 10
-create_10 : fault_of (create (Some 10) font_object) (start_state (unscaled_map (at (pos 0) (pos 0))) (by_given_index 10)) four ≡ Some NoSuchHandle
+create_10 : fault_of (create (Some 10) font_object) (start_state core_rules (unscaled_map (at (pos 0) (pos 0))) (by_given_index 10)) four ≡ Some NoSuchHandle
 create_10 = refl

@@ -1,6 +1,7 @@
 -- Where worked values start: a surface of 4 by 4 that shows a frame of its size, and operations played on it.
 use Rattle.std.proofs.Common.{ℤ, pos, List, [], ◌∷◌, Option}
 use Rattle.draw_ops.specs.Operation.{Operation}
+use Rattle.draw_ops.specs.RuleSets.{core_rules}
 use Rattle.draw_ops.specs.declared.record_fault.RecordFault.{RecordFault}
 use Rattle.mapping.specs.PageMap.{unscaled_map}
 use Rattle.mapping.specs.Surface.{Surface}
@@ -29,7 +30,7 @@ half = record { width = 2; height = 2; frame_width = 4; frame_height = 4 }
 
 -- the start of a file whose map scales nothing
 abbrev pub start : State
-start = start_state (unscaled_map (at (pos 0) (pos 0))) by_lowest_free
+start = start_state core_rules (unscaled_map (at (pos 0) (pos 0))) by_lowest_free
 
 -- the state after these operations, none of which is looked at for its fault
 abbrev pub played : List Operation → State → State

@@ -2,8 +2,10 @@ pub mod Clip
 pub mod Figures
 pub mod Path
 pub mod State
+pub mod StartFor
 pub mod StockObjects
 pub mod Selecting
+pub mod Deleting
 pub mod SavedStates
 pub mod Mapped
 pub mod Drawing
@@ -13,6 +15,7 @@ pub mod Modes
 pub mod Next
 pub mod Needs
 pub mod FaultLaws
+pub mod DeletionLaws
 pub mod Pieces
 pub mod Values
 pub mod Boxes

@@ -1,5 +1,5 @@
 -- A machine as callers see it.
-use Rattle.std.specs.Prelude.{◌≡◌, ◌⊎◌, ℕ, ◌^◌, ◌<◌, ◌≤◌, Bool, true, false, List, [], length, Option, Some, None, IfSome, Result, Ok, Err}
+use Rattle.std.specs.Prelude.{◌≡◌, ◌⊎◌, ℕ, ◌^◌, ◌<◌, ◌≤◌, Bool, true, false, List, [], length, map, Option, Some, None, IfSome, Result, Ok, Err}
 use Rattle.std.specs.Option.{option_map}
 use Rattle.mapping.specs.Nibs.{IsNib}
 use Rattle.mapping.specs.declared.nib.Nib.{Nib}
@@ -10,6 +10,7 @@ use Rattle.draw_ops.specs.Operation.{Operation, create, fill_path, save, stroke_
 use Rattle.draw_ops.specs.declared.fault.Fault.{Fault}
 use Rattle.draw_ops.specs.declared.fault.Fault.TheVariants.{OutOfMemory, Record}
 use Rattle.object_tables.specs.Table.{created_index, index_bound}
+use Rattle.dc_stack.specs.Deleting.{counted, dc_without}
 use Rattle.dc_stack.specs.Drawing.{Drawing, drawing_nib, drawing_of, tools_of}
 use Rattle.dc_stack.specs.Draws.{IsPlacedDraw, mark_of, paints_path}
 use Rattle.dc_stack.specs.Extents.{IsExtent}
@@ -61,6 +62,21 @@ pub record IsUnchanged (old new : MachineState) : Type 0 where
   pub painted : new.painted ≡ old.painted
   pub plane_extent : new.plane_extent ≡ old.plane_extent
   pub needs : new.needs ≡ old.needs
+
+-- the current state and all saved ones have let go of an index, and that is counted; everything else is the same
+pub record IsLetGo (index : ℕ) (old new : MachineState) : Type 0 where
+  pub dc : new.state.dc ≡ dc_without index old.state.dc
+  pub saved : new.state.saved ≡ map (dc_without index) old.state.saved
+  pub counted : new.state.held_deletions ≡ counted old.state.held_deletions
+  pub slots : new.state.slots ≡ old.state.slots
+  pub table_kind : new.state.table_kind ≡ old.state.table_kind
+  pub path : new.state.path ≡ old.state.path
+  pub rules : new.state.rules ≡ old.state.rules
+  pub painted : new.painted ≡ old.painted
+  pub plane_extent : new.plane_extent ≡ old.plane_extent
+  pub surface : new.surface ≡ old.surface
+  pub needs : new.needs ≡ old.needs
+  pub capacity : new.capacity ≡ old.capacity
 
 -- an operation was played: it has no fault, and the state is the next one
 pub record HasStepped (operation : Operation) (old new : MachineState) : Type 0 where

@@ -3,9 +3,10 @@ use Rattle.std.specs.Prelude.{List, [], ◌∷◌, length}
 use Rattle.mapping.specs.declared.geometry.Point.{Point}
 use Rattle.mapping.specs.MapSettings.{with_mode, with_offset_viewport_origin, with_offset_window_origin, with_viewport_extent, with_viewport_origin, with_window_extent, with_window_origin}
 use Rattle.draw_ops.specs.Operation.{Operation, no_effect, save, restore, set_background_mode, set_map_mode, set_raster_op, set_fill_mode, set_background_colour, set_window_origin, set_window_extent, set_viewport_origin, set_viewport_extent, offset_window_origin, offset_viewport_origin, exclude_clip, intersect_clip, remove_clip, move_to, line_to, pixel, rectangle, polyline, polygon, polyline_to, blit, create, select, select_palette, delete, begin_path, end_path, close_figure, abort_path, fill_path, stroke_path, stroke_and_fill_path}
-use Rattle.object_tables.specs.Slots.{with_object, without_object}
+use Rattle.object_tables.specs.Slots.{with_object}
 use Rattle.object_tables.specs.Table.{created_index}
 use Rattle.dc_stack.specs.Clip.{unclipped, with_cut, with_kept}
+use Rattle.dc_stack.specs.Deleting.{after_deleting}
 use Rattle.dc_stack.specs.Modes.{with_background_colour, with_background_mode, with_fill_mode, with_raster_op}
 use Rattle.dc_stack.specs.Figures.{box_corners, no_figures}
 use Rattle.dc_stack.specs.Mapped.{mapped_box, mapped_list, mapped_lists, mapped_point}
@@ -57,7 +58,7 @@ next (blit asked) state = state
 next (create at object) state = with_slots (with_object (created_index state.table_kind at state.slots) object state.slots) state
 next (select index) state = with_selected (after_selecting index (named_object index state.slots) state.dc.selected) state
 next (select_palette index) state = with_selected (after_selecting index (named_object index state.slots) state.dc.selected) state
-next (delete index) state = with_slots (without_object index state.slots) state
+next (delete index) state = after_deleting index state
 next begin_path state = with_path (open_path no_figures 0) state
 next end_path state = with_path (after_ending state.path) state
 next close_figure state = with_path (after_closing state.path) state

@@ -20,6 +20,8 @@ after_saving state = record {
   table_kind = state.table_kind;
   saved = state.saved ++ state.dc ∷ [];
   path = state.path;
+  rules = state.rules;
+  held_deletions = state.held_deletions;
 }
 
 -- The position, among some saved states, that a number names. A positive number counts from the oldest, which is 1, and
@@ -44,4 +46,6 @@ after_restoring (Some place) state = record {
   table_kind = state.table_kind;
   saved = take place state.saved;
   path = state.path;
+  rules = state.rules;
+  held_deletions = state.held_deletions;
 }

@@ -1,9 +1,10 @@
 -- Selecting objects, and which are in use.
-use Rattle.std.specs.Prelude.{ℕ, Bool, false, ◌||◌, ◌==◌, if◌then◌else◌, ◌∷◌, Option, Some, None}
+use Rattle.std.specs.Prelude.{ℕ, Bool, false, ◌||◌, ◌&&◌, not, ◌==◌, if◌then◌else◌, ◌∷◌, Option, Some, None}
 use Rattle.std.specs.List.{list_any}
 use Rattle.draw_ops.specs.declared.record_fault.RecordFault.{RecordFault}
 use Rattle.draw_ops.specs.declared.record_fault.RecordFault.TheVariants.{HeldObject, NoSuchHandle, WrongKind}
 use Rattle.draw_ops.specs.Objects.{ObjectValue, brush_object, font_object, palette_object, pen_object}
+use Rattle.draw_ops.specs.RuleSets.{allows_held_deletion}
 use Rattle.object_tables.specs.Slots.{Slots, is_taken, object_at}
 use Rattle.dc_stack.specs.State.{DcValue, Selections, State}
 use Rattle.dc_stack.specs.StockObjects.{is_stock_index, stock_object}
@@ -67,6 +68,8 @@ selects index s = is_index_of index s.pen.index || is_index_of index s.brush.ind
 abbrev pub is_in_use : ℕ → State → Bool
 is_in_use index state = list_any (λ (dc : DcValue). selects index dc.selected) (state.dc ∷ state.saved)
 
--- the fault of deleting an object: the table doesn't have it, or it is in use
+-- the fault of deleting an object: the table doesn't have it, or it is in use and the rules don't allow that
 abbrev pub delete_fault : ℕ → State → Option RecordFault
-delete_fault index state = if is_taken index state.slots then (if is_in_use index state then Some HeldObject else None) else Some NoSuchHandle
+delete_fault index state =
+    if is_taken index state.slots then (if is_in_use index state && not (allows_held_deletion state.rules) then Some HeldObject else None)
+    else Some NoSuchHandle

@@ -9,6 +9,7 @@ use Rattle.draw_ops.specs.declared.raster_op.RasterOp.TheVariants.{CopyPen}
 use Rattle.draw_ops.specs.declared.settings.BackgroundMode.TheVariants.{Opaque}
 use Rattle.draw_ops.specs.declared.settings.FillMode.TheVariants.{Alternate}
 use Rattle.draw_ops.specs.Objects.{BrushValue, solid_brush}
+use Rattle.draw_ops.specs.declared.rules.Rules.{Rules}
 use Rattle.meta_headers.specs.Headers.{OpenedValue}
 use Rattle.object_tables.specs.Slots.{Slots}
 use Rattle.object_tables.specs.Table.{TableKind, table_kind_of}
@@ -16,7 +17,7 @@ use Rattle.dc_stack.specs.Clip.{ClipValue, unclipped}
 use Rattle.dc_stack.specs.Path.{Path, no_path}
 use Rattle.dc_stack.specs.declared.modes.Modes.{Modes}
 
--- a selected object, and its index, unless it is a stock object
+-- a selected object, and its index, unless it is a stock object or was deleted while it was selected
 pub record Selection (A : Type 0) : Type 0 where
   pub object : A
   pub index : Option ℕ
@@ -38,13 +39,15 @@ pub record DcValue : Type 0 where
   pub clip : ClipValue
 
 -- The whole state: what saving copies, the objects by their indexes, how new ones get theirs, the saved states, the
--- oldest first, and the path.
+-- oldest first, the path, the rules, and how often a selected object was deleted, up to 2^32 - 1.
 pub record State : Type 0 where
   pub dc : DcValue
   pub slots : Slots
   pub table_kind : TableKind
   pub saved : List DcValue
   pub path : Path
+  pub rules : Rules
+  pub held_deletions : ℕ
 
 -- the initial selection: a black pen, a white brush, the stock font and the default palette
 abbrev pub stock_selections : Selections
@@ -74,13 +77,21 @@ start_dc map = record {
   clip = unclipped;
 }
 
--- the state before the first record of a file with this initial map and this kind of table
-abbrev pub start_state : MapNumbers → TableKind → State
-start_state map kind = record { dc = start_dc map; slots = []; table_kind = kind; saved = []; path = no_path }
+-- the state before the first record of a file with this initial map and this kind of table, under these rules
+abbrev pub start_state : Rules → MapNumbers → TableKind → State
+start_state rules map kind = record {
+  dc = start_dc map;
+  slots = [];
+  table_kind = kind;
+  saved = [];
+  path = no_path;
+  rules = rules;
+  held_deletions = 0;
+}
 
 -- the state before the first record of an opened file
 abbrev pub start_of : OpenedValue → State
-start_of o = start_state o.map (table_kind_of o.handles)
+start_of o = start_state o.rules o.map (table_kind_of o.handles)
 
 -- the state with another state for drawings
 abbrev pub with_dc : DcValue → State → State
@@ -90,6 +101,8 @@ with_dc dc state = record {
   table_kind = state.table_kind;
   saved = state.saved;
   path = state.path;
+  rules = state.rules;
+  held_deletions = state.held_deletions;
 }
 
 -- the state with other objects in its table
@@ -100,6 +113,8 @@ with_slots slots state = record {
   table_kind = state.table_kind;
   saved = state.saved;
   path = state.path;
+  rules = state.rules;
+  held_deletions = state.held_deletions;
 }
 
 -- the state with another path
@@ -110,6 +125,8 @@ with_path path state = record {
   table_kind = state.table_kind;
   saved = state.saved;
   path = path;
+  rules = state.rules;
+  held_deletions = state.held_deletions;
 }
 
 -- the state with other selected objects

@@ -7,6 +7,7 @@ ghost use Rattle.dc_stack.specs.State.{start_dc};
 use crate::clip::Clip;
 use crate::modes::Modes;
 use crate::selected::Selected;
+use draw_ops::Handle;
 use mapping::{PageMap, Point};
 
 /// What drawings depend on, and what SAVEDC copies: the selected objects, modes and colours, the page map, the current
@@ -22,6 +23,7 @@ pub struct Dc<'a> {
 
 impl<'a> Dc<'a> {
     ghost use Rattle.dc_stack.specs.Clip.{unclipped};
+    ghost use Rattle.dc_stack.specs.Deleting.{dc_without};
     ghost use Rattle.dc_stack.specs.Values.{dc_value, placed_value};
 
     /// This state before the first record of a file with this initial map.
@@ -36,5 +38,13 @@ impl<'a> Dc<'a> {
             position: Point { x: 0, y: 0 },
             clip: Clip::none(),
         }
+    }
+
+    /// Drops this index. What has it selected keeps its values.
+    pub(crate) fn let_go(&mut self, handle: Handle)
+        ensures value { dc_value self.new ≡ dc_without handle.0 (dc_value self.old) }
+        ensures clip { self.new.clip ≡ self.old.clip }
+    {
+        self.selected.let_go(handle);
     }
 }

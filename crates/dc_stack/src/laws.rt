@@ -1,5 +1,6 @@
-//! The law of how faults depend on the surface.
+//! Laws of operations: how faults depend on the surface, and deletions on the rules.
 
+ghost use Rattle.dc_stack.specs.DeletionLaws.{DeletionLaws};
 ghost use Rattle.dc_stack.specs.FaultLaws.{FaultLaws};
 
 use mapping::{nib_law, placing_law};
@@ -13,3 +14,9 @@ pub fn fault_law()
     placing_law();
     nib_law();
 }
+
+/// A selected object can be deleted exactly if the rules allow that, which those of the core profile don't. Afterwards
+/// nothing has its index selected. A deletion of any other object only takes it from the table.
+pub fn deletion_law()
+    ensures { DeletionLaws }
+{}

@@ -1,7 +1,6 @@
 //! The machine: the playing state, and how one operation changes it.
 
 ghost use Rattle.std.specs.Prelude.{◌≡◌, ◌≤◌, ◌<◌, ◌⊎◌, [], IfErr, IfOk, IfSome, None, OnErr, OnOk, length};
-ghost use Rattle.mapping.specs.PageMap.{map_numbers};
 ghost use Rattle.mapping.specs.PlaceOf.{surface_of};
 ghost use Rattle.draw_ops.specs.Operation.{Operation};
 ghost use Rattle.draw_ops.specs.OperationOf.{operation_of};
@@ -9,7 +8,7 @@ ghost use Rattle.draw_ops.specs.declared.fault.Fault.TheVariants.{OutOfMemory};
 ghost use Rattle.dc_stack.specs.MachineState.{GoesOn, HasNib, HasStepped, IsDrawingOf, IsExtentOf, IsUnchanged, LacksCapacity, BorrowsPainted, MachineState, Plays, RejectsStep, ReportsUndrawn, outcome};
 ghost use Rattle.dc_stack.specs.Draws.{IsPlacedDraw};
 ghost use Rattle.dc_stack.specs.Needs.{no_needs};
-ghost use Rattle.dc_stack.specs.State.{start_state};
+ghost use Rattle.dc_stack.specs.StartFor.{start_for};
 
 mod adding;
 mod clipping;
@@ -26,7 +25,7 @@ use crate::draw::{Draw, Painting, clear_drawing, paints_path};
 use crate::needs::Needs;
 use crate::path::GatheredPath;
 use crate::piece::Piece;
-use draw_ops::{Fault, Op};
+use draw_ops::{Fault, Op, Rules};
 use mapping::{Place, Rect};
 use meta_headers::Opened;
 use object_tables::{Contents, Table};
@@ -45,6 +44,8 @@ pub struct Machine<'a, T: Contents> {
     plane_extent: Option<Rect>,
     place: Place,
     needs: Needs,
+    rules: Rules,
+    held_deletions: u32,
 }
 
 impl<'a, T: Contents> Model for Machine<'a, T> {
@@ -58,7 +59,7 @@ impl<'a, T: Contents> Model for Machine<'a, T> {
     ghost Value = { MachineState };
 
     ghost view = { λ m. record {
-      state = record { dc = dc_value m.dc; slots = (T.state m.table).slots; table_kind = (T.state m.table).kind; saved = map dc_value m.saved.items; path = path_of m.path };
+      state = record { dc = dc_value m.dc; slots = (T.state m.table).slots; table_kind = (T.state m.table).kind; saved = map dc_value m.saved.items; path = path_of m.path; rules = m.rules; held_deletions = m.held_deletions };
       painted = painted_of m.path;
       plane_extent = m.plane_extent;
       surface = surface_of m.place;
@@ -74,7 +75,7 @@ impl<'a, T: Table<'a>> Machine<'a, T> {
 
     /// The machine at the start of a file that is shown on a surface. Its table has no objects. Allocates no memory.
     pub fn new(alloc: Global, opened: &Opened<'_>, place: Place, mut table: T) -> Machine<'a, T>
-        ensures state { result.state ≡ start_state (map_numbers opened.now.start_map) (T.state table).kind }
+        ensures state { result.state ≡ start_for opened.now (T.state table).kind }
         ensures surface { result.surface ≡ surface_of place }
         ensures needs { result.needs ≡ no_needs }
         ensures painted { result.painted ≡ [] }
@@ -92,12 +93,14 @@ impl<'a, T: Table<'a>> Machine<'a, T> {
             plane_extent: None,
             place,
             needs: Needs::none(),
+            rules: opened.rules,
+            held_deletions: 0,
         }
     }
 
     /// Goes back to the start of a file, on the same surface. The capacity is kept.
     pub fn restart(&mut self, opened: &Opened<'_>)
-        ensures state { self.new.state ≡ start_state (map_numbers opened.now.start_map) self.old.state.table_kind }
+        ensures state { self.new.state ≡ start_for opened.now self.old.state.table_kind }
         ensures painted { self.new.painted ≡ [] }
         ensures extent { self.new.plane_extent ≡ None }
         ensures needs { self.new.needs ≡ no_needs }
@@ -109,6 +112,8 @@ impl<'a, T: Table<'a>> Machine<'a, T> {
         self.path.abort();
         self.plane_extent = None;
         self.needs = Needs::none();
+        self.rules = opened.rules;
+        self.held_deletions = 0;
     }
 
     /// Allocates memory for this many saved states, for objects with indexes below `slots`, and for this many pieces of
@@ -274,6 +279,13 @@ impl<'a, T: Table<'a>> Machine<'a, T> {
         ensures placed { IsPlacedOn self.now.surface result.now.clip }
     {
         &self.dc
+    }
+
+    /// How many objects were deleted while they were selected, since the start, at most 2^32 - 1.
+    pub fn held_deletions(&self) -> u32
+        ensures { result ≡ self.now.state.held_deletions }
+    {
+        self.held_deletions
     }
 
     /// The greatest needs of all steps since the start.

@@ -19,7 +19,34 @@ impl Projection {
         requires { IsTrue (is_projected self.now point) }
         ensures { result ≡ projected self.now point }
     {
+        if self.map.one_to_one {
+            limits_law();
+            return self.place.at(self.map.moved(point));
+        }
+        self.scaled_at(point)
+    }
+
+    /// The same for any map. Neither this nor `fine_at` is inlined, so that each call is the last step of its caller and
+    /// costs nothing elsewhere.
+    #[inline(never)]
+    fn scaled_at(&self, point: Point) -> Point
+        requires { IsTrue (is_projected self.now point) }
+        ensures { result ≡ projected self.now point }
+    {
+        if self.map.parts == 1 {
+            limits_law();
+            return self.place.at(self.map.at_in_units(point));
+        }
+        self.fine_at(point)
+    }
+
+    /// The same where a unit of the device may have several parts.
+    #[inline(never)]
+    fn fine_at(&self, point: Point) -> Point
+        requires { IsTrue (is_projected self.now point) }
+        ensures { result ≡ projected self.now point }
+    {
         limits_law();
-        self.place.at(self.map.at(point))
+        self.place.at(self.map.at_in_parts(point))
     }
 }

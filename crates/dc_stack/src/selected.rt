@@ -2,14 +2,15 @@
 
 ghost use Rattle.std.specs.Prelude.{◌≡◌, None};
 ghost use Rattle.draw_ops.specs.Objects.{index_of, object_value_of};
+ghost use Rattle.dc_stack.specs.Deleting.{other_index, without_index};
 ghost use Rattle.dc_stack.specs.Selecting.{is_index_of, selects, with_object_selected};
 ghost use Rattle.dc_stack.specs.State.{stock_selections};
 
 use draw_ops::{Brush, Handle, Object, Pen};
 use mapping::Colour;
 
-/// The selected objects, each with its index, unless it is a stock object. Nothing is drawn with the font and the
-/// palette, so only their indexes are stored.
+/// The selected objects, each with its index, unless it is a stock object or was deleted while it was selected. Nothing
+/// is drawn with the font and the palette, so only their indexes are stored.
 #[derive(Clone, Copy, Debug, PartialEq, Eq)]
 pub struct Selected<'a> {
     pub pen: Pen,
@@ -55,6 +56,16 @@ impl<'a> Selected<'a> {
         }
     }
 
+    /// Drops this index. What has it selected keeps its values.
+    pub(crate) fn let_go(&mut self, handle: Handle)
+        ensures { selections_value self.new ≡ without_index handle.0 (selections_value self.old) }
+    {
+        self.pen_handle = other_than(handle, self.pen_handle);
+        self.brush_handle = other_than(handle, self.brush_handle);
+        self.font = other_than(handle, self.font);
+        self.palette = other_than(handle, self.palette);
+    }
+
     /// Whether one of the selected objects has this index.
     pub(crate) fn has(&self, handle: Handle) -> bool
         ensures { result ≡ selects handle.0 (selections_value self.now) }
@@ -74,4 +85,11 @@ fn is_of(handle: Handle, kept: Option<Handle>) -> bool
         None => false,
         Some(kept) => kept.0 == handle.0,
     }
+}
+
+/// A stored index, or `None` if it is this one.
+fn other_than(handle: Handle, kept: Option<Handle>) -> Option<Handle>
+    ensures { index_of result ≡ other_index handle.0 (index_of kept) }
+{
+    if is_of(handle, kept) { None } else { kept }
 }

@@ -10,7 +10,7 @@ use Rattle.draw_ops.specs.declared.fault.Fault.{Fault}
 use Rattle.draw_ops.specs.declared.fault.Fault.TheVariants.{TooLong, NotMetafile, ShortHeader, BadHeader, NoFrame, NotCertificate, ShortCertificate, BadBound, TrailingBytes, Record, NeedTooSmall, BudgetTooSmall, SurfaceTooLarge, BadImage, WriteFault, OutOfMemory}
 use Rattle.draw_ops.specs.declared.note.Note.{Note}
 use Rattle.draw_ops.specs.declared.note.Note.TheVariants.{PlaceableChecksum, PlaceableFields, SizeField, AfterEnd, DashedPen, WidePen, Isotropic, EmfPlus, Skipped}
-use Rattle.draw_ops.specs.declared.record_fault.RecordFault.TheVariants.{NoEnd, ShortRecord, PastEnd, TooManyRecords, UnknownRecord, Unsupported, BadParams, BadValue, PaletteColour, MetricMode, BadDib, CompressedDib, ShortDib, TableFull, HandleTaken, NoSuchHandle, WrongKind, HeldObject, NoSavedState, DepthLimit, TooManyCuts, ZeroExtent, OffPlane, SourceMissing, SourceOutside, PathState, TooManyEdges, TooManyPieces, WrongEntry, BoxTooSmall, NibTooWide, NibTooSmall}
+use Rattle.draw_ops.specs.declared.record_fault.RecordFault.TheVariants.{NoEnd, ShortRecord, PastEnd, TooManyRecords, UnknownRecord, Unsupported, BadParams, BadValue, PaletteColour, MetricMode, BadDib, CompressedDib, ShortDib, TableFull, HandleTaken, NoSuchHandle, WrongKind, HeldObject, NoSavedState, DepthLimit, TooManyCuts, ZeroExtent, OffPlane, SourceMissing, SourceOutside, PathState, TooManyEdges, TooManyPieces, WrongEntry, BoxTooSmall, NibTooWide, NibTooSmall, EmfPlusAlone}
 
 -- the same codes of a name
 abbrev same_name : List ℕ → List ℕ → Bool
@@ -21,7 +21,7 @@ same_name (c ∷ cs) (d ∷ ds) = c == d && same_name cs ds
 
 -- the faults in the order of their codes, those that speak of a kind of record with this one
 abbrev faults : ℕ → List Fault
-faults kind = TooLong ∷ NotMetafile ∷ ShortHeader ∷ BadHeader ∷ NoFrame ∷ NotCertificate ∷ ShortCertificate ∷ BadBound ∷ TrailingBytes ∷ (Record NoEnd) ∷ (Record ShortRecord) ∷ (Record PastEnd) ∷ (Record TooManyRecords) ∷ (Record (UnknownRecord kind)) ∷ (Record (Unsupported kind)) ∷ (Record BadParams) ∷ (Record BadValue) ∷ (Record PaletteColour) ∷ (Record MetricMode) ∷ (Record BadDib) ∷ (Record CompressedDib) ∷ (Record ShortDib) ∷ (Record TableFull) ∷ (Record HandleTaken) ∷ (Record NoSuchHandle) ∷ (Record WrongKind) ∷ (Record HeldObject) ∷ (Record NoSavedState) ∷ (Record DepthLimit) ∷ (Record TooManyCuts) ∷ (Record ZeroExtent) ∷ (Record OffPlane) ∷ (Record SourceMissing) ∷ (Record SourceOutside) ∷ (Record PathState) ∷ (Record TooManyEdges) ∷ (Record TooManyPieces) ∷ (Record WrongEntry) ∷ (Record BoxTooSmall) ∷ NeedTooSmall ∷ BudgetTooSmall ∷ SurfaceTooLarge ∷ BadImage ∷ WriteFault ∷ OutOfMemory ∷ (Record NibTooWide) ∷ (Record NibTooSmall) ∷ []
+faults kind = TooLong ∷ NotMetafile ∷ ShortHeader ∷ BadHeader ∷ NoFrame ∷ NotCertificate ∷ ShortCertificate ∷ BadBound ∷ TrailingBytes ∷ (Record NoEnd) ∷ (Record ShortRecord) ∷ (Record PastEnd) ∷ (Record TooManyRecords) ∷ (Record (UnknownRecord kind)) ∷ (Record (Unsupported kind)) ∷ (Record BadParams) ∷ (Record BadValue) ∷ (Record PaletteColour) ∷ (Record MetricMode) ∷ (Record BadDib) ∷ (Record CompressedDib) ∷ (Record ShortDib) ∷ (Record TableFull) ∷ (Record HandleTaken) ∷ (Record NoSuchHandle) ∷ (Record WrongKind) ∷ (Record HeldObject) ∷ (Record NoSavedState) ∷ (Record DepthLimit) ∷ (Record TooManyCuts) ∷ (Record ZeroExtent) ∷ (Record OffPlane) ∷ (Record SourceMissing) ∷ (Record SourceOutside) ∷ (Record PathState) ∷ (Record TooManyEdges) ∷ (Record TooManyPieces) ∷ (Record WrongEntry) ∷ (Record BoxTooSmall) ∷ NeedTooSmall ∷ BudgetTooSmall ∷ SurfaceTooLarge ∷ BadImage ∷ WriteFault ∷ OutOfMemory ∷ (Record NibTooWide) ∷ (Record NibTooSmall) ∷ (Record EmfPlusAlone) ∷ []
 
 -- the place of a fault in a list, or 0
 abbrev nth : {A : Type 0} → A → List A → ℕ → A
@@ -42,13 +42,13 @@ code_named code (fault ∷ rest) name = cond (same_name name (fault_row fault).n
 
 -- a code is one of those of faults that lie in a record
 abbrev is_record_code : ℕ → Bool
-is_record_code code = (nat_le 10 code && nat_le code 39) || (nat_le 46 code && nat_le code 47)
+is_record_code code = (nat_le 10 code && nat_le code 39) || (nat_le 46 code && nat_le code 48)
 
 -- what is computed of each fault
 record Facts (fault : Fault) : Type 0 where
   at : fault_at (fault_row fault).code (record_kind_of fault) ≡ fault
   named : code_named 1 (faults 0) (fault_row fault).name ≡ (fault_row fault).code
-  within : nat_le 1 (fault_row fault).code && nat_le (fault_row fault).code 47 ≡ true
+  within : nat_le 1 (fault_row fault).code && nat_le (fault_row fault).code 48 ≡ true
   place : IsInRecord fault ↔ (is_record_code (fault_row fault).code ≡ true)
 
 facts : (fault : Fault) → Facts fault
@@ -99,6 +99,7 @@ facts WriteFault = record { at = refl; named = refl; within = refl; place = (λ 
 facts OutOfMemory = record { at = refl; named = refl; within = refl; place = (λ h. absurd h, λ h. cc) }
 facts (Record NibTooWide) = record { at = refl; named = refl; within = refl; place = (λ h. refl, λ h. tt) }
 facts (Record NibTooSmall) = record { at = refl; named = refl; within = refl; place = (λ h. refl, λ h. tt) }
+facts (Record EmfPlusAlone) = record { at = refl; named = refl; within = refl; place = (λ h. refl, λ h. tt) }
 
 is_from_to : (first last n : ℕ) → nat_le first n && nat_le n last ≡ true → IsFromTo first last n
 is_from_to first last n h = let parts = and_parts (nat_le first n) (nat_le n last) h in record { low = leb-true _ _ parts.0; high = leb-true _ _ parts.1 }
@@ -109,11 +110,11 @@ tested first last n h = and_from (nat_le first n) (nat_le n last) (le-leb _ _ h.
 -- the codes of faults that lie in a record
 code_from : (code : ℕ) → is_record_code code ≡ true → IsRecordCode code
 code_from code t =
-    by_either (nat_le 10 code && nat_le code 39) (nat_le 46 code && nat_le code 47) t (λ h. inl (is_from_to 10 39 code h)) (λ h. inr (is_from_to 46 47 code h))
+    by_either (nat_le 10 code && nat_le code 39) (nat_le 46 code && nat_le code 48) t (λ h. inl (is_from_to 10 39 code h)) (λ h. inr (is_from_to 46 48 code h))
 
 code_tested : (code : ℕ) → IsRecordCode code → is_record_code code ≡ true
-code_tested code (inl h) = or_left (nat_le 10 code && nat_le code 39) (nat_le 46 code && nat_le code 47) (tested 10 39 code h)
-code_tested code (inr h) = or_right (nat_le 10 code && nat_le code 39) (nat_le 46 code && nat_le code 47) (tested 46 47 code h)
+code_tested code (inl h) = or_left (nat_le 10 code && nat_le code 39) (nat_le 46 code && nat_le code 48) (tested 10 39 code h)
+code_tested code (inr h) = or_right (nat_le 10 code && nat_le code 39) (nat_le 46 code && nat_le code 48) (tested 46 48 code h)
 
 -- faults whose codes count up
 abbrev CountUp : ℕ → List Fault → Type 0
@@ -128,7 +129,7 @@ has_code (fault ∷ rest) n code up a b = elim (cases_eq n code) [
 ]
 
 all_count_up : CountUp 1 (faults 0)
-all_count_up = (refl, (refl, (refl, (refl, (refl, (refl, (refl, (refl, (refl, (refl, (refl, (refl, (refl, (refl, (refl, (refl, (refl, (refl, (refl, (refl, (refl, (refl, (refl, (refl, (refl, (refl, (refl, (refl, (refl, (refl, (refl, (refl, (refl, (refl, (refl, (refl, (refl, (refl, (refl, (refl, (refl, (refl, (refl, (refl, (refl, (refl, (refl, tt)))))))))))))))))))))))))))))))))))))))))))))))
+all_count_up = (refl, (refl, (refl, (refl, (refl, (refl, (refl, (refl, (refl, (refl, (refl, (refl, (refl, (refl, (refl, (refl, (refl, (refl, (refl, (refl, (refl, (refl, (refl, (refl, (refl, (refl, (refl, (refl, (refl, (refl, (refl, (refl, (refl, (refl, (refl, (refl, (refl, (refl, (refl, (refl, (refl, (refl, (refl, (refl, (refl, (refl, (refl, (refl, tt))))))))))))))))))))))))))))))))))))))))))))))))
 
 same_fault : (fault other : Fault) → (fault_row fault).code ≡ (fault_row other).code → record_kind_of fault ≡ record_kind_of other → fault ≡ other
 same_fault fault other code kind =
@@ -136,7 +137,7 @@ same_fault fault other code kind =
 
 pub fault_table : FaultTableLaws
 fault_table = record {
-  within = λ fault. is_from_to 1 47 _ (facts fault).within;
+  within = λ fault. is_from_to 1 48 _ (facts fault).within;
   none_left_out = λ code h. has_code (faults 0) code 1 all_count_up h.low (let high = h.high in omega (arith, high));
   one_code = λ fault other code kind. same_fault fault other code kind;
   one_name = λ fault other name kind. same_fault fault other (sym (facts fault).named ∙ ap (code_named 1 (faults 0)) name ∙ (facts other).named) kind;

@@ -2,7 +2,7 @@
 use Rattle.std.specs.Prelude.{ℕ, List, codes}
 use Rattle.draw_ops.specs.declared.fault.Fault.{Fault}
 use Rattle.draw_ops.specs.declared.fault.Fault.TheVariants.{TooLong, NotMetafile, ShortHeader, BadHeader, NoFrame, NotCertificate, ShortCertificate, BadBound, TrailingBytes, Record, NeedTooSmall, BudgetTooSmall, SurfaceTooLarge, BadImage, WriteFault, OutOfMemory}
-use Rattle.draw_ops.specs.declared.record_fault.RecordFault.TheVariants.{NoEnd, ShortRecord, PastEnd, TooManyRecords, UnknownRecord, Unsupported, BadParams, BadValue, PaletteColour, MetricMode, BadDib, CompressedDib, ShortDib, TableFull, HandleTaken, NoSuchHandle, WrongKind, HeldObject, NoSavedState, DepthLimit, TooManyCuts, ZeroExtent, OffPlane, SourceMissing, SourceOutside, PathState, TooManyEdges, TooManyPieces, WrongEntry, BoxTooSmall, NibTooWide, NibTooSmall}
+use Rattle.draw_ops.specs.declared.record_fault.RecordFault.TheVariants.{NoEnd, ShortRecord, PastEnd, TooManyRecords, UnknownRecord, Unsupported, BadParams, BadValue, PaletteColour, MetricMode, BadDib, CompressedDib, ShortDib, TableFull, HandleTaken, NoSuchHandle, WrongKind, HeldObject, NoSavedState, DepthLimit, TooManyCuts, ZeroExtent, OffPlane, SourceMissing, SourceOutside, PathState, TooManyEdges, TooManyPieces, WrongEntry, BoxTooSmall, NibTooWide, NibTooSmall, EmfPlusAlone}
 
 -- a fault's code and name
 pub record FaultRow : Type 0 where
@@ -61,3 +61,4 @@ fault_row WriteFault = row 44 (codes "WriteFault")
 fault_row OutOfMemory = row 45 (codes "OutOfMemory")
 fault_row (Record NibTooWide) = row 46 (codes "NibTooWide")
 fault_row (Record NibTooSmall) = row 47 (codes "NibTooSmall")
+fault_row (Record EmfPlusAlone) = row 48 (codes "EmfPlusAlone")

@@ -23,6 +23,7 @@ pub mod Framed
 pub mod Meaning
 pub mod RecordContent
 pub mod RecordOf
+pub mod RuleSets
 pub mod Reading
 pub mod Fields
 pub mod KindTable

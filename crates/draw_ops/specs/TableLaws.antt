@@ -23,13 +23,13 @@ pub record IsIndex (index : ℕ) : Type 0 where
 
 -- a code is one of those of faults that lie in a record
 abbrev pub IsRecordCode : ℕ → Type 0
-IsRecordCode code = IsFromTo 10 39 code ⊎ IsFromTo 46 47 code
+IsRecordCode code = IsFromTo 10 39 code ⊎ IsFromTo 46 48 code
 
--- The codes of faults are 1 to 47, and each is that of a fault. A code, with the kind of record that the fault refers
--- to, determines the fault, and so does a name. The codes of faults that lie in a record are 10 to 39, 46 and 47.
+-- The codes of faults are 1 to 48, and each is that of a fault. A code, with the kind of record that the fault refers
+-- to, determines the fault, and so does a name. The codes of faults that lie in a record are 10 to 39 and 46 to 48.
 pub record FaultTableLaws : Type 0 where
-  pub within : (fault : Fault) → IsFromTo 1 47 (fault_row fault).code
-  pub none_left_out : (code : ℕ) → IsFromTo 1 47 code → IsCode code
+  pub within : (fault : Fault) → IsFromTo 1 48 (fault_row fault).code
+  pub none_left_out : (code : ℕ) → IsFromTo 1 48 code → IsCode code
   pub one_code :
       (fault other : Fault) → (fault_row fault).code ≡ (fault_row other).code
       → record_kind_of fault ≡ record_kind_of other → fault ≡ other

@@ -134,6 +134,7 @@ impl Fault {
             Fault::OutOfMemory => (45, "OutOfMemory"),
             Fault::Record(RecordFault::NibTooWide) => (46, "NibTooWide"),
             Fault::Record(RecordFault::NibTooSmall) => (47, "NibTooSmall"),
+            Fault::Record(RecordFault::EmfPlusAlone) => (48, "EmfPlusAlone"),
         }
     }
 }

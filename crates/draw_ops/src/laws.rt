@@ -36,7 +36,7 @@ pub fn prefix_law()
 }
 
 /// Each code and name in the table of faults is unique, and so is each index and name in the table of notes. The codes
-/// are 1 to 47; those of faults in a record are 10 to 39, 46 and 47. The indexes are 0 to 8.
+/// are 1 to 48; those of faults in a record are 10 to 39 and 46 to 48. The indexes are 0 to 8.
 pub fn table_law()
     ensures faults { FaultTableLaws }
     ensures notes { NoteTableLaws }

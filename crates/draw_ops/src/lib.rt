@@ -2,6 +2,8 @@
 //!
 //! # What is promised
 //!
+//! - Rules have a fine plane under the print profile alone, and allow more only under that (`Rules::has_fine_plane`,
+//!   `allows_held_deletion`, `allows_emf_plus`).
 //! - Each fault has one code and one name, as the table of faults says (`Fault::code`, `Fault::name`, `Fault::number`,
 //!   by `fault_row` and `record_kind_of`).
 //! - Each code and name in the tables of faults and notes is unique, and none is left out (`table_law`).
@@ -48,6 +50,7 @@ mod point_lists;
 mod raster_op;
 mod record_fault;
 mod record_ops;
+mod rules;
 mod settings;
 mod source;
 mod step;
@@ -78,6 +81,7 @@ pub use point_lists::{counts_at, points_at};
 pub use raster_op::RasterOp;
 pub use record_fault::RecordFault;
 pub use record_ops::RecordOps;
+pub use rules::{Allowances, Profile, Rules};
 pub use settings::{BackgroundMode, FillMode};
 pub use source::{HasContent, OpSource};
 pub use step::Step;

@@ -74,4 +74,7 @@ pub enum RecordFault {
     BoxTooSmall,
     /// The nib of the entry is smaller than the drawing's at the bound.
     NibTooSmall,
+    // The last record.
+    /// The file contains EMF+, and its own records draw nothing. The print profile rejects that unless it is allowed.
+    EmfPlusAlone,
 }

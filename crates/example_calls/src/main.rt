@@ -3,6 +3,7 @@
 #![tactic(auto)]
 
 use canvas::Canvas;
+use draw_ops::Rules;
 use listing::{DryRun, write_listing};
 use mapping::Colour;
 use player::play;
@@ -17,7 +18,7 @@ const GREY: Colour = Colour {
 
 fn main(rt: HostRuntime) -> io::Result<()> {
     let held = fs::read(&rt, "held.wmf")?;
-    let Ok(dry_run) = DryRun::new(rt.alloc(), &held) else {
+    let Ok(dry_run) = DryRun::new(rt.alloc(), Rules::CORE, &held) else {
         return Err(io::ErrorKind::OutOfMemory.into());
     };
     let Ok(_) = write_listing(&held, dry_run, &mut rt.stdout()) else {

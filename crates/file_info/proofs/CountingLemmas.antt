@@ -9,7 +9,7 @@ use Rattle.draw_ops.specs.declared.fault.Fault.{Fault}
 use Rattle.draw_ops.specs.declared.fault.Fault.TheVariants.{Record}
 use Rattle.draw_ops.specs.declared.record_fault.RecordFault.{RecordFault}
 use Rattle.listing.specs.DryRunState.{after_record, fault_in_runs}
-use Rattle.listing.specs.Listing.{step_in}
+use Rattle.listing.specs.Listing.{is_end, step_in}
 use Rattle.listing.specs.Walk.{GivesFault, GivesNoRecord, GivesRecord}
 use Rattle.listing.specs.declared.record_walk.PlacedRecord.{PlacedRecord}
 use Rattle.listing.specs.SameStep.{same_step_in}
@@ -38,7 +38,7 @@ after_any faults old new (Some fault) few counts adds = adds faults few counts
 
 module _ (format : FileFormat) (f : Framing) (is_of : framing_of format ≡ f) (old new : Counted) where
   -- a record was counted
-  pub one_record : (given : PlacedRecord) (decoded : Result StepValue RecordFault) (run : Option RecordFault) (before : Totals) → GivesRecord f old.walk given new.walk → step_in format given.after.now given.number (record_of given.record) ≡ decoded → run ≡ fault_in_runs old.state decoded → new.state ≡ after_record old.state decoded → new.walk.number ≤ record_limit → before.records ≡ new.walk.number → before.notes ≡ old.totals.notes → before.faults ≡ old.totals.faults → AddsRecord before decoded run new.totals → CountsRecord format old new
+  pub one_record : (given : PlacedRecord) (decoded : Result StepValue RecordFault) (run : Option RecordFault) (before : Totals) → GivesRecord f old.walk given new.walk → step_in format given.after.now given.number (record_of given.record) ≡ decoded → run ≡ fault_in_runs (is_end format (record_of given.record)) old.state decoded → new.state ≡ after_record old.state decoded → new.walk.number ≤ record_limit → before.records ≡ new.walk.number → before.notes ≡ old.totals.notes → before.faults ≡ old.totals.faults → AddsRecord before decoded run new.totals → CountsRecord format old new
   one_record given decoded run before gives is found judged within records notes counted adds =
       let r = record_of given.record in
       record {
@@ -65,7 +65,7 @@ module _ (format : FileFormat) (f : Framing) (is_of : framing_of format ≡ f) (
               left =
                   let value : TotalsValue = record { records = old.totals.records; notes = old.totals.notes.counts; faults = leads.faults } in
                   let stepped : totals_after_framed format old.state (ahead r new.walk.framed) value ≡ total = rw gives.leading at leads.left in
-                  let same : totals_after format (after_record old.state decoded) new.walk.framed.after new.walk.framed.records new.walk.framed.fault (with_record old.state decoded value) ≡ total = rw here stepped in
+                  let same : totals_after format (after_record old.state decoded) new.walk.framed.after new.walk.framed.records new.walk.framed.fault (with_record (is_end format r) old.state decoded value) ≡ total = rw here stepped in
                   rw (judged, next, noted, notes, found) same;
             };
       }

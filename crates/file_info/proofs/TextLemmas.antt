@@ -1,18 +1,41 @@
 -- The text of a report in pieces: the first members, the faults, and the last members.
-use Rattle.std.proofs.Common.{◌≡◌, ◌∙◌, ◌||◌, ℕ, Bool, true, false, List, [], ◌∷◌, ◌++◌, Option, Some, None, ℤ, pos, negsuc, drop, codes, refl, sym, ap}
+use Rattle.std.proofs.Common.{◌≡◌, ◌∙◌, ◌||◌, if◌then◌else◌, ℕ, Bool, true, false, List, [], ◌∷◌, ◌++◌, Option, Some, None, ℤ, pos, negsuc, drop, codes, refl, sym, ap}
 use Rattle.std.proofs.lemmas.List.{append_assoc}
 use Rattle.serde_json.specs.Data.{Data, Items, Members, array, boolean, member, no_members, null, object, put, string}
 use Rattle.serde_json.specs.Written.{compact_text, has_float, items_text, members_have_float, members_text}
 use Rattle.mapping.specs.declared.geometry.Rect.{Rect}
+use Rattle.draw_ops.specs.RuleSets.{has_fine_plane}
 use Rattle.meta_headers.specs.declared.opened.FileFormat.{FileFormat}
 use Rattle.report_parts.specs.Parts.{notes_data, report_text, whole_if}
-use Rattle.report_parts.specs.Whole.{if_whole, notes_whole, put_whole}
+use Rattle.report_parts.specs.Whole.{if_whole, notes_whole, profile_whole, put_whole}
 use Rattle.file_info.specs.Info.{is_playing}
-use Rattle.file_info.specs.InfoReport.{counted_items, first_members, format_data, frame_data, info_line, joined, kind_if, last_members, objects_if, paper_if, record_if, records_data, size_data}
+use Rattle.file_info.specs.InfoReport.{box_data, counted_items, dots_data, drawings_if, emf_frame_if, fault_if, first_members, format_data, frame_data, info_line, joined, kind_if, last_members, objects_if, paper_if, record_if, records_data, size_data, text_if, uses_if}
 use Rattle.file_info.specs.JoinedText.{PutsFaults, faults_text, open_text}
 use Rattle.file_info.specs.declared.info.FileInfo.{FileInfo}
 use Rattle.file_info.specs.declared.paper.Paper.{Paper}
 use Rattle.file_info.specs.declared.paper.Sizes.{Sizes}
+
+-- the first and the last members of the core profile
+abbrev plain_first : FileInfo → Members
+plain_first info =
+    put (codes "dots_per_inch") (dots_data (paper_if info.sizes))
+    (put (codes "drawings") (whole_if (drawings_if info.playing))
+    (put (codes "emf_frame") (box_data (emf_frame_if info.sizes))
+    (put (codes "error") null
+    (put (codes "fault") (text_if (fault_if info.playing)) no_members))))
+
+abbrev plain_last : List ℕ → FileInfo → Members
+plain_last name info =
+    put (codes "file") (string name)
+    (put (codes "format") (format_data info.format)
+    (put (codes "frame") (frame_data info.sizes)
+    (put (codes "notes") (notes_data info.totals.notes.counts)
+    (put (codes "number") (whole_if (kind_if info.playing))
+    (put (codes "objects") (whole_if (objects_if info.playing))
+    (put (codes "plays") (boolean (is_playing info.playing))
+    (put (codes "record") (whole_if (record_if info.playing))
+    (put (codes "records") (records_data info.format info.totals.records)
+    (put (codes "size") (size_data (paper_if info.sizes)) no_members)))))))))
 
 -- whether there is a member
 abbrev starts : Members → Bool
@@ -61,12 +84,27 @@ module _ (first last : Members) (items : Items) (starts_last : starts last ≡ t
       ap (λ (t : List ℕ). t ++ members_text false last) (puts (123 ∷ open_text false first) ends)
       ∙ (pieces (open_text false first) (compact_text (string (codes "faults"))) (items_text false items) (members_text false last) ∙ sym whole_text)
 
+-- there are first and last members under each profile
+starts_first : (info : FileInfo) → starts (first_members info) ≡ true
+starts_first info = by_profile (has_fine_plane info.rules)
+  where
+    by_profile : (fine : Bool) → starts (if fine then put (codes "allowed") (uses_if info.playing) (plain_first info) else plain_first info) ≡ true
+    by_profile true = refl
+    by_profile false = refl
+
+starts_last : (name : List ℕ) (info : FileInfo) → starts (last_members name info) ≡ true
+starts_last name info = by_profile (has_fine_plane info.rules)
+  where
+    by_profile : (fine : Bool) → starts (if fine then put (codes "profile") (string (codes "print")) (plain_last name info) else plain_last name info) ≡ true
+    by_profile true = refl
+    by_profile false = refl
+
 -- the line of a file from its pieces
 pub in_pieces : (name : List ℕ) (info : FileInfo) (text with_faults : List ℕ) → text ≡ compact_text (object (first_members info))
     → PutsFaults (counted_items info.totals.faults) text with_faults
     → (with_faults ++ drop 1 (compact_text (object (last_members name info)))) ++ 10 ∷ [] ≡ info_line name info
 in_pieces name info text with_faults is puts =
-    ap (λ (t : List ℕ). t ++ 10 ∷ []) (all_pieces (first_members info) (last_members name info) (counted_items info.totals.faults) refl refl text with_faults is puts)
+    ap (λ (t : List ℕ). t ++ 10 ∷ []) (all_pieces (first_members info) (last_members name info) (counted_items info.totals.faults) (starts_last name info) (starts_first info) text with_faults is puts)
 
 -- all numbers of the last members are integers
 format_whole : (format : Option FileFormat) → has_float (format_data format) ≡ false
@@ -105,4 +143,6 @@ last_whole name info =
     let e7 : members_have_float m7 ≡ false = put_whole (codes "frame") (frame_data info.sizes) m6 (frame_whole info.sizes) e6 in
     let m8 = put (codes "format") (format_data info.format) m7 in
     let e8 : members_have_float m8 ≡ false = put_whole (codes "format") (format_data info.format) m7 (format_whole info.format) e7 in
-    put_whole (codes "file") (string name) m8 refl e8
+    let m9 = put (codes "file") (string name) m8 in
+    let e9 : members_have_float m9 ≡ false = put_whole (codes "file") (string name) m8 refl e8 in
+    profile_whole info.rules m9 e9

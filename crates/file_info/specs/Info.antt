@@ -2,14 +2,19 @@
 use Rattle.std.specs.Prelude.{◌≡◌, ◌≤◌, ℕ, List, length, Option, Some, None, Result, Ok, Err, Bool, true, false}
 use Rattle.mapping.specs.Image.{Image}
 use Rattle.mapping.specs.Limits.{surface_side_limit}
+use Rattle.draw_ops.specs.Content.{Content}
 use Rattle.draw_ops.specs.declared.fault.Fault.{Fault}
+use Rattle.draw_ops.specs.declared.rules.Rules.{Rules}
+use Rattle.meta_headers.specs.File.{IsFile}
 use Rattle.meta_headers.specs.Formats.{format_of}
 use Rattle.meta_headers.specs.Headers.{OpenedValue}
 use Rattle.meta_headers.specs.Opening.{opened}
+use Rattle.preflight_cert.specs.After.{file_uses}
 use Rattle.preflight_cert.specs.Answer.{Shows}
 use Rattle.preflight_cert.specs.CertificateReading.{CertificateValue, read_certificate}
 use Rattle.preflight_cert.specs.Preparation.{Prepares}
 use Rattle.preflight_cert.specs.Run.{Rejected}
+use Rattle.preflight_cert.specs.declared.uses.Uses.{Uses}
 use Rattle.file_info.specs.Counting.{HasTotals}
 use Rattle.file_info.specs.Paper.{emf_frame_in, paper_in}
 use Rattle.file_info.specs.Totals.{totals_of}
@@ -32,34 +37,40 @@ abbrev pub sizes_if : Result OpenedValue Fault → List ℕ → Option Sizes
 sizes_if (Err fault) file = None
 sizes_if (Ok o) file = Some (sizes_of file o)
 
--- a certificate is prepared for a file at the largest bound, with an entry for each of this many drawings, and this many
--- places for objects
-pub record PlaysLargest (file : List ℕ) (drawings objects : ℕ) : Type 0 where
+-- a certificate is prepared for a file under rules at the largest bound, with an entry for each of this many drawings,
+-- and this many places for objects; and the file's records use this of what the rules allow
+pub record PlaysLargest (rules : Rules) (file : List ℕ) (drawings objects : ℕ) (uses : Uses) : Type 0 where
   pub bytes : List ℕ
   pub certificate : CertificateValue
-  pub prepared : Prepares file surface_side_limit surface_side_limit bytes
+  pub prepared : Prepares rules file surface_side_limit surface_side_limit bytes
   pub read : read_certificate bytes ≡ Ok certificate
   pub all : drawings ≡ length certificate.entries
   pub most : objects ≡ certificate.needs.slots
+  pub headers : OpenedValue
+  pub content : Content
+  pub of_file : IsFile rules file headers content
+  pub used : uses ≡ file_uses content headers
 
--- how a file's run on the largest surface ends
-abbrev pub IsPlaying : List ℕ → Playing → Type 0
-IsPlaying file (Plays drawings objects) = PlaysLargest file drawings objects
-IsPlaying file (Stops r) = Rejected file surface_side_limit surface_side_limit r.number r.fault
+-- how a file's run under rules on the largest surface ends
+abbrev pub IsPlaying : Rules → List ℕ → Playing → Type 0
+IsPlaying rules file (Plays drawings objects uses) = PlaysLargest rules file drawings objects uses
+IsPlaying rules file (Stops r) = Rejected rules file surface_side_limit surface_side_limit r.number r.fault
 
--- What is known of a file: its format, the sizes in its headers, the totals of its records, and how its run on the
--- largest surface ends.
-pub record IsInfoOf (file : List ℕ) (info : FileInfo) : Type 0 where
+-- What is known of a file under rules: its format, the sizes in its headers, the totals of its records, and how its run
+-- on the largest surface ends.
+pub record IsInfoOf (rules : Rules) (file : List ℕ) (info : FileInfo) : Type 0 where
+  pub under : info.rules ≡ rules
   pub format : info.format ≡ format_of file
   pub sizes : info.sizes ≡ sizes_if (opened file) file
-  pub totals : HasTotals info.totals (totals_of file)
-  pub playing : IsPlaying file info.playing
+  pub totals : HasTotals info.totals (totals_of rules file)
+  pub playing : IsPlaying rules file info.playing
 
--- the file plays on every surface, over any image
-abbrev pub PlaysEverywhere : List ℕ → Type 0
-PlaysEverywhere file = (width height : ℕ) (image : Image) → width ≤ surface_side_limit → height ≤ surface_side_limit → Shows file width height image
+-- the file plays under rules on every surface, over any image
+abbrev pub PlaysEverywhere : Rules → List ℕ → Type 0
+PlaysEverywhere rules file =
+    (width height : ℕ) (image : Image) → width ≤ surface_side_limit → height ≤ surface_side_limit → Shows rules file width height image
 
 -- the file's run has no fault
 abbrev pub is_playing : Playing → Bool
-is_playing (Plays drawings objects) = true
+is_playing (Plays drawings objects uses) = true
 is_playing (Stops r) = false

@@ -6,7 +6,9 @@ use Rattle.draw_ops.specs.Fault.{record_kind_of}
 use Rattle.draw_ops.specs.FaultTable.{fault_row}
 use Rattle.meta_headers.specs.Formats.{format_name}
 use Rattle.meta_headers.specs.declared.opened.FileFormat.{FileFormat}
+use Rattle.draw_ops.specs.declared.rules.Rules.{Rules}
 use Rattle.report_parts.specs.Parts.{notes_data, pair, report_text, whole, whole_if}
+use Rattle.report_parts.specs.Profile.{uses_data, with_allowed, with_profile}
 use Rattle.file_info.specs.Info.{is_playing}
 use Rattle.file_info.specs.declared.fault_count.FaultCount.{FaultCount}
 use Rattle.file_info.specs.declared.info.FileInfo.{FileInfo}
@@ -70,24 +72,29 @@ emf_frame_if (Some sizes) = sizes.emf_frame
 
 -- the number of drawings, and of places for objects, of a file that plays
 abbrev pub drawings_if : Playing → Option ℕ
-drawings_if (Plays drawings objects) = Some drawings
+drawings_if (Plays drawings objects uses) = Some drawings
 drawings_if (Stops r) = None
 
 abbrev pub objects_if : Playing → Option ℕ
-objects_if (Plays drawings objects) = Some objects
+objects_if (Plays drawings objects uses) = Some objects
 objects_if (Stops r) = None
+
+-- what a file that plays uses of what its rules allow, or null if it doesn't play
+abbrev pub uses_if : Playing → Data
+uses_if (Plays drawings objects uses) = uses_data uses.held_deletion uses.emf_plus
+uses_if (Stops r) = null
 
 -- the first fault of a file that doesn't play: its name, the kind of record that it refers to, and its record
 abbrev pub fault_if : Playing → Option (List ℕ)
-fault_if (Plays drawings objects) = None
+fault_if (Plays drawings objects uses) = None
 fault_if (Stops r) = Some (fault_row r.fault).name
 
 abbrev pub kind_if : Playing → Option ℕ
-kind_if (Plays drawings objects) = None
+kind_if (Plays drawings objects uses) = None
 kind_if (Stops r) = record_kind_of r.fault
 
 abbrev pub record_if : Playing → Option ℕ
-record_if (Plays drawings objects) = None
+record_if (Plays drawings objects uses) = None
 record_if (Stops r) = r.number
 
 -- a fault with how often it occurs
@@ -110,25 +117,32 @@ joined (member name value members) others = member name value (joined members ot
 -- the members before `faults`
 abbrev pub first_members : FileInfo → Members
 first_members info =
-    put (codes "dots_per_inch") (dots_data (paper_if info.sizes))
+    with_allowed info.rules (uses_if info.playing)
+    (put (codes "dots_per_inch") (dots_data (paper_if info.sizes))
     (put (codes "drawings") (whole_if (drawings_if info.playing))
     (put (codes "emf_frame") (box_data (emf_frame_if info.sizes))
     (put (codes "error") null
-    (put (codes "fault") (text_if (fault_if info.playing)) no_members))))
+    (put (codes "fault") (text_if (fault_if info.playing)) no_members)))))
+
+-- four members more for how the file's run ends
+abbrev pub with_playing : Playing → Members → Members
+with_playing playing members =
+    put (codes "number") (whole_if (kind_if playing))
+    (put (codes "objects") (whole_if (objects_if playing))
+    (put (codes "plays") (boolean (is_playing playing))
+    (put (codes "record") (whole_if (record_if playing)) members)))
 
 -- the members after `faults`
 abbrev pub last_members : List ℕ → FileInfo → Members
 last_members name info =
-    put (codes "file") (string name)
+    with_profile info.rules
+    (put (codes "file") (string name)
     (put (codes "format") (format_data info.format)
     (put (codes "frame") (frame_data info.sizes)
     (put (codes "notes") (notes_data info.totals.notes.counts)
-    (put (codes "number") (whole_if (kind_if info.playing))
-    (put (codes "objects") (whole_if (objects_if info.playing))
-    (put (codes "plays") (boolean (is_playing info.playing))
-    (put (codes "record") (whole_if (record_if info.playing))
+    (with_playing info.playing
     (put (codes "records") (records_data info.format info.totals.records)
-    (put (codes "size") (size_data (paper_if info.sizes)) no_members)))))))))
+    (put (codes "size") (size_data (paper_if info.sizes)) no_members)))))))
 
 -- the report about the file with this name
 abbrev pub info_data : List ℕ → FileInfo → Data
@@ -149,15 +163,17 @@ with_last_unknown members =
     (put (codes "size") null members))))))))
 
 -- The report about a file that wasn't read, with the same names.
-abbrev pub unread_data : List ℕ → List ℕ → Data
-unread_data name error =
-    object (put (codes "dots_per_inch") null
+abbrev pub unread_data : Rules → List ℕ → List ℕ → Data
+unread_data rules name error =
+    object (with_allowed rules null
+    (with_profile rules
+    (put (codes "dots_per_inch") null
     (put (codes "drawings") null
     (put (codes "emf_frame") null
     (put (codes "error") (string error)
     (put (codes "fault") null
     (put (codes "faults") null
-    (put (codes "file") (string name) (with_last_unknown no_members))))))))
+    (put (codes "file") (string name) (with_last_unknown no_members))))))))))
 
 -- The line of a file: its report, and a line feed.
 abbrev pub info_line : List ℕ → FileInfo → List ℕ

@@ -1,17 +1,18 @@
 -- What is counted over the records of a file.
-use Rattle.std.specs.Prelude.{ℕ, suc, List, [], ◌∷◌, ◌++◌, Option, Some, None, Result, Ok, Err}
+use Rattle.std.specs.Prelude.{ℕ, suc, Bool, List, [], ◌∷◌, ◌++◌, Option, Some, None, Result, Ok, Err}
 use Rattle.draw_ops.specs.Content.{StepValue}
 use Rattle.draw_ops.specs.NoteCounts.{added_notes, no_notes}
 use Rattle.draw_ops.specs.Records.{Framed, Record as RawRecord}
 use Rattle.draw_ops.specs.declared.fault.Fault.{Fault}
 use Rattle.draw_ops.specs.declared.fault.Fault.TheVariants.{Record}
 use Rattle.draw_ops.specs.declared.record_fault.RecordFault.{RecordFault}
+use Rattle.draw_ops.specs.declared.rules.Rules.{Rules}
 use Rattle.meta_headers.specs.Formats.{format_of}
 use Rattle.meta_headers.specs.Headers.{OpenedValue}
 use Rattle.meta_headers.specs.Opening.{opened}
 use Rattle.meta_headers.specs.declared.opened.FileFormat.{FileFormat}
 use Rattle.listing.specs.DryRunState.{DryRunState, after_record, dry_run_state_of, fault_in_runs}
-use Rattle.listing.specs.Listing.{framed_records, step_in}
+use Rattle.listing.specs.Listing.{framed_records, is_end, step_in}
 
 -- the number of records, the number of notes of each kind, and the faults in order
 pub record TotalsValue : Type 0 where
@@ -34,12 +35,12 @@ abbrev pub with_fault : List Fault → Option RecordFault → List Fault
 with_fault faults None = faults
 with_fault faults (Some fault) = faults ++ Record fault ∷ []
 
--- the totals with one more record
-abbrev pub with_record : Option DryRunState → Result StepValue RecordFault → TotalsValue → TotalsValue
-with_record state decoded totals = record {
+-- the totals with one more record, which is the end record or not
+abbrev pub with_record : Bool → Option DryRunState → Result StepValue RecordFault → TotalsValue → TotalsValue
+with_record is_end state decoded totals = record {
   records = suc totals.records;
   notes = with_notes totals.notes decoded;
-  faults = with_fault totals.faults (found_fault decoded (fault_in_runs state decoded));
+  faults = with_fault totals.faults (found_fault decoded (fault_in_runs is_end state decoded));
 }
 
 -- the totals with the fault by which the records break, if they break
@@ -51,7 +52,7 @@ with_break fault totals = record totals { faults = with_fault totals.faults faul
 abbrev pub totals_after : FileFormat → Option DryRunState → List ℕ → List RawRecord → Option RecordFault → TotalsValue → TotalsValue
 totals_after format state after [] fault totals = with_break fault totals
 totals_after format state after (r ∷ rs) fault totals =
-    totals_after format (after_record state (step_in format after totals.records r)) after rs fault (with_record state (step_in format after totals.records r) totals)
+    totals_after format (after_record state (step_in format after totals.records r)) after rs fault (with_record (is_end format r) state (step_in format after totals.records r) totals)
 
 -- the totals after framed records
 abbrev pub totals_after_framed : FileFormat → Option DryRunState → Framed → TotalsValue → TotalsValue
@@ -62,15 +63,15 @@ abbrev pub start_totals : Result OpenedValue Fault → TotalsValue
 start_totals (Err fault) = record { records = 0; notes = no_notes; faults = fault ∷ [] }
 start_totals (Ok o) = record { records = 0; notes = o.notes; faults = [] }
 
--- the totals of a file of some format
-abbrev pub totals_in : FileFormat → List ℕ → TotalsValue
-totals_in format file = totals_after_framed format (dry_run_state_of file) (framed_records format file) (start_totals (opened file))
+-- the totals of a file of some format, under rules
+abbrev pub totals_in : FileFormat → Rules → List ℕ → TotalsValue
+totals_in format rules file = totals_after_framed format (dry_run_state_of rules file) (framed_records format file) (start_totals (opened file))
 
 -- the totals of a file of this format; a file without one has no records
-abbrev pub totals_if : Option FileFormat → List ℕ → TotalsValue
-totals_if None file = start_totals (opened file)
-totals_if (Some format) file = totals_in format file
+abbrev pub totals_if : Option FileFormat → Rules → List ℕ → TotalsValue
+totals_if None rules file = start_totals (opened file)
+totals_if (Some format) rules file = totals_in format rules file
 
--- The totals of a file.
-abbrev pub totals_of : List ℕ → TotalsValue
-totals_of file = totals_if (format_of file) file
+-- The totals of a file under rules.
+abbrev pub totals_of : Rules → List ℕ → TotalsValue
+totals_of rules file = totals_if (format_of file) rules file

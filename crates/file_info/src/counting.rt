@@ -11,7 +11,7 @@ ghost use Rattle.file_info.specs.Totals.{start_totals, totals_in, totals_of};
 use crate::fault_counts::FaultCounts;
 use crate::totals::Totals;
 use canvas::OutOfMemory;
-use draw_ops::{Fault, Format, Notes, RecordFault, Step};
+use draw_ops::{Fault, Format, Notes, RecordFault, Rules, Step};
 use emf_records::Emf;
 use listing::{DryRun, RecordWalk, first_place, records_in, step_in};
 use meta_headers::{FileFormat, open_file};
@@ -19,19 +19,25 @@ use std::alloc::Global;
 use wmf_records::Wmf;
 
 /// Counts the records of a file, the notes of its headers and records, and its faults: the headers' fault, the fault of
-/// each record as a listing has it, and the one by which the records break.
-pub fn count_records(alloc: Global, file: &[u8]) -> Result<Totals, OutOfMemory>
-    ensures { IfOk result (λ totals. HasTotals totals (totals_of file.now)) }
+/// each record as a listing under these rules has it, and the one by which the records break.
+pub fn count_records(alloc: Global, rules: Rules, file: &[u8]) -> Result<Totals, OutOfMemory>
+    ensures { IfOk result (λ totals. HasTotals totals (totals_of rules file.now)) }
 {
     let start = start(alloc, file)?;
-    let mut dry_run = DryRun::new(alloc, file)?;
+    let mut dry_run = DryRun::new(alloc, rules, file)?;
     match FileFormat::of(file) {
         None => Ok(start),
         Some(FileFormat::Placeable) => {
-            count_in::<Wmf>(FileFormat::Placeable, file, &mut dry_run, start)
+            count_in::<Wmf>(FileFormat::Placeable, rules, file, &mut dry_run, start)
         }
-        Some(FileFormat::Plain) => count_in::<Wmf>(FileFormat::Plain, file, &mut dry_run, start),
-        Some(FileFormat::Emf) => count_in::<Emf>(FileFormat::Emf, file, &mut dry_run, start),
+        Some(FileFormat::Plain) => count_in::<Wmf>(
+            FileFormat::Plain,
+            rules,
+            file,
+            &mut dry_run,
+            start,
+        ),
+        Some(FileFormat::Emf) => count_in::<Emf>(FileFormat::Emf, rules, file, &mut dry_run, start),
     }
 }
 
@@ -57,17 +63,18 @@ fn start(alloc: Global, file: &[u8]) -> Result<Totals, OutOfMemory>
     }
 }
 
-/// Counts the records of a file with this framing.
+/// Counts the records of a file with this framing, under these rules.
 fn count_in<'a, F: Format>(
     format: FileFormat,
+    rules: Rules,
     file: &'a [u8],
     dry_run: &mut DryRun<'a>,
     mut totals: Totals,
 ) -> Result<Totals, OutOfMemory>
     requires framing { framing_of format ≡ F.framing }
-    requires state { dry_run.old ≡ dry_run_state_of file.now }
+    requires state { dry_run.old ≡ dry_run_state_of rules file.now }
     requires start { HasTotals totals (start_totals (opened file.now)) }
-    ensures { IfOk result (λ totals. HasTotals totals (totals_in format file.now)) }
+    ensures { IfOk result (λ totals. HasTotals totals (totals_in format rules file.now)) }
 {
     let mut walk = RecordWalk::<F>::new(records_in(format, file), first_place(format));
     while count_next(format, &mut walk, dry_run, &mut totals)? {}
@@ -88,7 +95,8 @@ fn count_next<'a, F: Format>(
     match walk.next_record() {
         Ok(Some(given)) => {
             let decoded = step_in(format, given);
-            let fault = run.try_step(&decoded);
+            let is_end = given.record.kind == F::end_kind();
+            let fault = run.try_step(&decoded, is_end);
             totals.records = walk.number();
             add_record(totals, &decoded, fault)?;
             Ok(true)

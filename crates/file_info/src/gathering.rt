@@ -10,21 +10,22 @@ use crate::paper::Sizes;
 use crate::playing::Playing;
 use crate::sizing::sizes;
 use canvas::OutOfMemory;
-use draw_ops::Fault;
+use draw_ops::{Fault, Rules, content_law};
 use mapping::MAX_SURFACE_SIDE;
 use meta_headers::{FileFormat, open_file, opening_law};
 use preflight_cert::{Prepared, run_law, size_law};
 use std::alloc::Global;
 
-/// What is known of a file: its format, the sizes in its headers, its records, notes and faults, and how its run on the
-/// largest surface ends. A file whose run there has no fault plays on every surface.
-pub fn file_info(alloc: Global, file: &[u8]) -> Result<FileInfo, OutOfMemory>
-    ensures info { IfOk result (IsInfoOf file.now) }
-    ensures plays { IfOk result (λ info. is_playing info.playing ≡ true ↔ PlaysEverywhere file.now) }
+/// What is known of a file under these rules: its format, the sizes in its headers, its records, notes and faults, and how
+/// its run on the largest surface ends. A file whose run there has no fault plays on every surface.
+pub fn file_info(alloc: Global, rules: Rules, file: &[u8]) -> Result<FileInfo, OutOfMemory>
+    ensures info { IfOk result (IsInfoOf rules file.now) }
+    ensures plays { IfOk result (λ info. is_playing info.playing ≡ true ↔ PlaysEverywhere rules file.now) }
 {
-    let totals = count_records(alloc, file)?;
-    let playing = playing(alloc, file)?;
+    let totals = count_records(alloc, rules, file)?;
+    let playing = playing(alloc, rules, file)?;
     Ok(FileInfo {
+        rules,
         format: FileFormat::of(file),
         sizes: sizes_if_opened(file),
         totals,
@@ -42,20 +43,22 @@ fn sizes_if_opened(file: &[u8]) -> Option<Sizes>
     }
 }
 
-/// How the file's run on the largest surface ends.
-fn playing(alloc: Global, file: &[u8]) -> Result<Playing, OutOfMemory>
-    ensures is { IfOk result (IsPlaying file.now) }
-    ensures everywhere { IfOk result (λ playing. is_playing playing ≡ true ↔ PlaysEverywhere file.now) }
+/// How the file's run under these rules on the largest surface ends.
+fn playing(alloc: Global, rules: Rules, file: &[u8]) -> Result<Playing, OutOfMemory>
+    ensures is { IfOk result (IsPlaying rules file.now) }
+    ensures everywhere { IfOk result (λ playing. is_playing playing ≡ true ↔ PlaysEverywhere rules file.now) }
 {
+    content_law();
     opening_law();
     run_law();
     size_law();
-    match Prepared::new(alloc, file, MAX_SURFACE_SIDE, MAX_SURFACE_SIDE) {
+    match Prepared::new(alloc, rules, file, MAX_SURFACE_SIDE, MAX_SURFACE_SIDE) {
         Ok(prepared) => {
             let cleared = prepared.clear();
             Ok(Playing::Plays {
                 drawings: cleared.certificate.len() as u64,
                 objects: cleared.certificate.needs.slots,
+                uses: cleared.uses,
             })
         }
         Err(refusal) => {

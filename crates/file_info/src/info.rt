@@ -3,11 +3,14 @@
 use crate::paper::Sizes;
 use crate::playing::Playing;
 use crate::totals::Totals;
+use draw_ops::Rules;
 use meta_headers::FileFormat;
 
 /// What is known of a file without a certificate.
 #[derive(Drop)]
 pub struct FileInfo {
+    /// The rules under which the file was examined.
+    pub rules: Rules,
     /// The format by the file's first bytes, if a metafile begins so.
     pub format: Option<FileFormat>,
     /// The sizes that the headers give. `None` if they have a fault.

@@ -5,7 +5,7 @@ ghost use Rattle.serde_json.specs.Data.{object, string};
 ghost use Rattle.serde_json.specs.View.{members_view, view};
 ghost use Rattle.serde_json.specs.Written.{compact_text};
 ghost use Rattle.report_parts.specs.Parts.{report_text};
-ghost use Rattle.file_info.specs.InfoReport.{counted_items, first_members, info_line, last_members, unread_data, with_last_unknown};
+ghost use Rattle.file_info.specs.InfoReport.{counted_items, first_members, info_line, last_members, unread_data, with_last_unknown, with_playing};
 ghost use Rattle.file_info.specs.JoinedText.{PutsFaults, faults_head};
 
 use crate::counted_text::put_counted;
@@ -14,8 +14,14 @@ use crate::info::FileInfo;
 use crate::info_values::{
     box_value, dots_value, format_value, frame_value, paper_of, records_value, size_value,
 };
-use crate::playing_values::{drawings_value, fault_value, kind_value, objects_value, record_value};
-use report_parts::{compact_text_of, notes_value, put_text, report_text_of};
+use crate::playing::Playing;
+use crate::playing_values::{
+    allowed_value, drawings_value, fault_value, kind_value, objects_value, record_value,
+};
+use draw_ops::Rules;
+use report_parts::{
+    compact_text_of, notes_value, put_allowed, put_profile, put_text, report_text_of,
+};
 use serde_json::{Map, Value, put};
 use std::alloc::{AllocError, Global};
 
@@ -40,6 +46,7 @@ fn first_value(alloc: Global, info: &FileInfo) -> Result<Value, AllocError>
     let dots = dots_value(alloc, paper_of(info.sizes))?;
     let frame = box_value(alloc, info.sizes)?;
     let fault = fault_value(alloc, info.playing)?;
+    let uses = allowed_value(alloc, info.playing)?;
     let mut members = Map::new(alloc);
     put(&mut members, alloc, "fault", fault)?;
     put(&mut members, alloc, "error", Value::Null)?;
@@ -51,6 +58,7 @@ fn first_value(alloc: Global, info: &FileInfo) -> Result<Value, AllocError>
         drawings_value(info.playing),
     )?;
     put(&mut members, alloc, "dots_per_inch", dots)?;
+    put_allowed(&mut members, alloc, info.rules, uses)?;
     Ok(Value::from(members))
 }
 
@@ -70,20 +78,27 @@ fn last_value(alloc: Global, name: &str, info: &FileInfo) -> Result<Value, Alloc
         "records",
         records_value(info.format, info.totals.records),
     )?;
-    put(&mut members, alloc, "record", record_value(info.playing))?;
-    put(
-        &mut members,
-        alloc,
-        "plays",
-        Value::from(info.playing.is_playing()),
-    )?;
-    put(&mut members, alloc, "objects", objects_value(info.playing))?;
-    put(&mut members, alloc, "number", kind_value(info.playing))?;
+    put_playing(&mut members, alloc, info.playing)?;
     put(&mut members, alloc, "notes", notes)?;
     put(&mut members, alloc, "frame", frame)?;
     put(&mut members, alloc, "format", format)?;
     put_text(&mut members, alloc, "file", name)?;
+    put_profile(&mut members, alloc, info.rules)?;
     Ok(Value::from(members))
+}
+
+/// Adds how the file's run ends.
+fn put_playing(
+    members: &mut Map<String, Value>,
+    alloc: Global,
+    playing: Playing,
+) -> Result<(), AllocError>
+    ensures { OnOk result (members_view members.new.entries ≡ with_playing playing (members_view members.old.entries)) }
+{
+    put(members, alloc, "record", record_value(playing))?;
+    put(members, alloc, "plays", Value::from(playing.is_playing()))?;
+    put(members, alloc, "objects", objects_value(playing))?;
+    put(members, alloc, "number", kind_value(playing))
 }
 
 /// Puts the member `faults` in place of the brace at the end of a text, and a comma after it.
@@ -129,16 +144,21 @@ fn without_first(bytes: &[u8]) -> &[u8]
 }
 
 /// The line of a file that wasn't read, with the error.
-pub fn unread_text(alloc: Global, name: &str, error: &str) -> Result<Vec<u8>, AllocError>
-    ensures { IfOk result (λ text. text.items ≡ report_text (unread_data name.now error.now)) }
+pub fn unread_text(
+    alloc: Global,
+    rules: Rules,
+    name: &str,
+    error: &str,
+) -> Result<Vec<u8>, AllocError>
+    ensures { IfOk result (λ text. text.items ≡ report_text (unread_data rules name.now error.now)) }
 {
-    let report = unread_value(alloc, name, error)?;
+    let report = unread_value(alloc, rules, name, error)?;
     report_text_of(alloc, &report)
 }
 
 /// The report about a file that wasn't read.
-fn unread_value(alloc: Global, name: &str, error: &str) -> Result<Value, AllocError>
-    ensures { IfOk result (λ value. view value ≡ unread_data name.now error.now) }
+fn unread_value(alloc: Global, rules: Rules, name: &str, error: &str) -> Result<Value, AllocError>
+    ensures { IfOk result (λ value. view value ≡ unread_data rules name.now error.now) }
 {
     let mut members = Map::new(alloc);
     put_last_unknown(&mut members, alloc)?;
@@ -149,6 +169,8 @@ fn unread_value(alloc: Global, name: &str, error: &str) -> Result<Value, AllocEr
     put(&mut members, alloc, "emf_frame", Value::Null)?;
     put(&mut members, alloc, "drawings", Value::Null)?;
     put(&mut members, alloc, "dots_per_inch", Value::Null)?;
+    put_profile(&mut members, alloc, rules)?;
+    put_allowed(&mut members, alloc, rules, Value::Null)?;
     Ok(Value::from(members))
 }
 

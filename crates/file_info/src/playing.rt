@@ -1,6 +1,6 @@
 //! How a file's run on the largest surface ends.
 
-use preflight_cert::Refusal;
+use preflight_cert::{Refusal, Uses};
 
 /// How a file's run on the largest surface ends.
 #[derive(Clone, Copy, Debug, PartialEq, Eq)]
@@ -10,6 +10,8 @@ pub enum Playing {
         drawings: u64,
         /// The most places for objects that are used at once.
         objects: u32,
+        /// How often the file uses what its rules can allow.
+        uses: Uses,
     },
     /// It stops at this fault.
     Stops(Refusal),

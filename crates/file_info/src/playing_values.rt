@@ -3,9 +3,10 @@
 ghost use Rattle.std.specs.Prelude.{◌≡◌, IfOk};
 ghost use Rattle.serde_json.specs.View.{view};
 ghost use Rattle.report_parts.specs.Parts.{whole_if};
-ghost use Rattle.file_info.specs.InfoReport.{drawings_if, fault_if, kind_if, objects_if, record_if, text_if};
+ghost use Rattle.file_info.specs.InfoReport.{drawings_if, fault_if, kind_if, objects_if, record_if, text_if, uses_if};
 
 use crate::playing::Playing;
+use report_parts::uses_value;
 use serde_json::Value;
 use std::alloc::{AllocError, Global};
 
@@ -26,6 +27,16 @@ pub(crate) fn objects_value(playing: Playing) -> Value
     match playing {
         Playing::Plays { objects, .. } => Value::from(objects),
         Playing::Stops(_) => Value::Null,
+    }
+}
+
+/// What the file uses of what its rules allow, or null if it doesn't play.
+pub(crate) fn allowed_value(alloc: Global, playing: Playing) -> Result<Value, AllocError>
+    ensures { IfOk result (λ value. view value ≡ uses_if playing) }
+{
+    match playing {
+        Playing::Plays { uses, .. } => uses_value(alloc, uses.held_deletion, uses.emf_plus),
+        Playing::Stops(_) => Ok(Value::Null),
     }
 }
 

@@ -2,6 +2,7 @@
 
 use crate::same_values::same;
 use command_lines::{Asked, CommandLine, line};
+use draw_ops::Rules;
 use std::alloc::{AllocError, Global};
 use std::test::Fail;
 
@@ -18,7 +19,7 @@ pub(crate) fn words(alloc: Global, words: &[&str]) -> Result<Vec<String>, AllocE
 fn command(alloc: Global, words: &[String]) -> Option<CommandLine<'_>> {
     match line(alloc, words) {
         Ok(Asked::Command(line)) => Some(line),
-        Ok(Asked::Info(_)) | Ok(Asked::Version) => None,
+        Ok(Asked::Info { .. }) | Ok(Asked::Version) => None,
         Err(_) => None,
     }
 }
@@ -53,6 +54,7 @@ fn each_side_from_1_to_8192_is_taken_in_both_places(rt: HostRuntime) -> Result<(
 fn shown(width: u32, height: u32) -> CommandLine<'static> {
     CommandLine::Show {
         file: "a.wmf",
+        rules: Rules::CORE,
         width,
         height,
         fit: false,

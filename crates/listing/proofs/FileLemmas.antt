@@ -1,5 +1,5 @@
 -- The records that a walk through a listing has behind it and in front of it.
-use Rattle.std.proofs.Common.{◌≡◌, ℕ, suc, ◌+◌, List, [], ◌∷◌, ◌++◌, length, take, drop, Option, Some, None, codes, refl, sym, ap, ◌∙◌, arith}
+use Rattle.std.proofs.Common.{◌≡◌, ℕ, suc, ◌+◌, List, [], ◌∷◌, ◌++◌, length, take, drop, Option, Some, None, codes, refl, sym, ap, subst, ◌∙◌, arith}
 use Rattle.std.specs.List.{All}
 use Rattle.std.proofs.lemmas.Grind.{flat_map-append}
 use Rattle.std.proofs.lemmas.List.{append_assoc, append-nil, drop-drop, length-append, take-append-drop}
@@ -8,6 +8,7 @@ use Rattle.std.proofs.lemmas.List.Elements.{All-push}
 use Rattle.draw_ops.specs.Framed.{FramedByFunction}
 use Rattle.draw_ops.specs.Records.{Broken, Framing, IsSpelledOrBroken, Record, Spells, leading_of, rest_of, size_of}
 use Rattle.draw_ops.specs.declared.record_fault.RecordFault.{RecordFault}
+use Rattle.draw_ops.specs.declared.rules.Rules.{Rules}
 use Rattle.meta_headers.specs.Formats.{format_of}
 use Rattle.meta_headers.specs.Opening.{framing_of, record_bytes}
 use Rattle.meta_headers.specs.declared.opened.FileFormat.{FileFormat}
@@ -73,7 +74,7 @@ there by_function file format before r after among =
 
 -- A listing up to the record with this number, which begins at this place, and what is left: lines, and the records that they tell; the records
 -- and the fault behind them, and their text.
-pub record IsReached (file : List ℕ) (format : FileFormat) (number place : ℕ) (rs : List Record) (ending : Option RecordFault) (left : List ℕ) : Type 0 where
+pub record IsReached (rules : Rules) (file : List ℕ) (format : FileFormat) (number place : ℕ) (rs : List Record) (ending : Option RecordFault) (left : List ℕ) : Type 0 where
   pub of_format : format_of file ≡ Some format
   pub lines : List (List ℕ)
   pub earlier : List Record
@@ -83,10 +84,10 @@ pub record IsReached (file : List ℕ) (format : FileFormat) (number place : ℕ
   pub begins : place ≡ place_after format earlier
   pub among : (framed_records format file).records ≡ earlier ++ rs
   pub ends : (framed_records format file).fault ≡ ending
-  pub text : listing_of file ≡ text_of_lines lines ++ left
+  pub text : listing_of rules file ≡ text_of_lines lines ++ left
 
 -- the record in front of others is the file's own
-pub own_record : (by_function : FramedByFunction) {file left : List ℕ} {format : FileFormat} {number place : ℕ} {r : Record} {rs : List Record} {ending : Option RecordFault} → IsReached file format number place (r ∷ rs) ending left → HasRecord file format number place r
+pub own_record : (by_function : FramedByFunction) {rules : Rules} {file left : List ℕ} {format : FileFormat} {number place : ℕ} {r : Record} {rs : List Record} {ending : Option RecordFault} → IsReached rules file format number place (r ∷ rs) ending left → HasRecord file format number place r
 own_record by_function {file = file} {format = format} {r = r} {rs = rs} reached = record {
   of_format = reached.of_format;
   before = reached.earlier;
@@ -100,7 +101,7 @@ own_record by_function {file = file} {format = format} {r = r} {rs = rs} reached
 }
 
 -- where none is left, the break is
-pub own_break : {file left : List ℕ} {format : FileFormat} {number place : ℕ} {fault : RecordFault} → IsReached file format number place [] (Some fault) left → BreaksAt file format number place fault
+pub own_break : {rules : Rules} {file left : List ℕ} {format : FileFormat} {number place : ℕ} {fault : RecordFault} → IsReached rules file format number place [] (Some fault) left → BreaksAt file format number place fault
 own_break {format = format} reached =
     let all = reached.among ∙ append-nil reached.earlier in
     record {
@@ -111,7 +112,7 @@ own_break {format = format} reached =
     }
 
 -- the line in front of the text that is left, and the last one
-pub line_here : {file : List ℕ} {format : FileFormat} {number place : ℕ} {rs : List Record} {ending : Option RecordFault} (line rest there : List ℕ) (other : ℕ) → IsReached file format number place rs ending (line ++ rest) → number ≡ other → line ≡ there → HasLine (listing_of file) other there
+pub line_here : {rules : Rules} {file : List ℕ} {format : FileFormat} {number place : ℕ} {rs : List Record} {ending : Option RecordFault} (line rest there : List ℕ) (other : ℕ) → IsReached rules file format number place rs ending (line ++ rest) → number ≡ other → line ≡ there → HasLine (listing_of rules file) other there
 line_here line rest there other reached count same = record {
   before = reached.lines;
   count = reached.reported ∙ count;
@@ -122,7 +123,7 @@ line_here line rest there other reached count same = record {
       ∙ sym (append_assoc (text_of_lines reached.lines) there rest);
 }
 
-pub line_last : {file : List ℕ} {format : FileFormat} {number place : ℕ} {rs : List Record} {ending : Option RecordFault} (line there : List ℕ) (other : ℕ) → IsReached file format number place rs ending line → number ≡ other → line ≡ there → HasLine (listing_of file) other there
+pub line_last : {rules : Rules} {file : List ℕ} {format : FileFormat} {number place : ℕ} {rs : List Record} {ending : Option RecordFault} (line there : List ℕ) (other : ℕ) → IsReached rules file format number place rs ending line → number ≡ other → line ≡ there → HasLine (listing_of rules file) other there
 line_last line there other reached count same = record {
   before = reached.lines;
   count = reached.reported ∙ count;
@@ -141,7 +142,7 @@ one_more before line rest =
     ∙ ap (λ (text : List ℕ). text ++ rest) (sym (flat_map-append (λ (l : List ℕ). l ++ codes "\n") before (line ∷ [])))
 
 -- so the record behind this one is reached
-pub reached_next : {file : List ℕ} {format : FileFormat} {number place : ℕ} {r : Record} {rs : List Record} {ending : Option RecordFault} (line rest : List ℕ) → IsOneLine line → IsReached file format number place (r ∷ rs) ending ((line ++ codes "\n") ++ rest) → IsReached file format (suc number) (place + length r.bytes) rs ending rest
+pub reached_next : {rules : Rules} {file : List ℕ} {format : FileFormat} {number place : ℕ} {r : Record} {rs : List Record} {ending : Option RecordFault} (line rest : List ℕ) → IsOneLine line → IsReached rules file format number place (r ∷ rs) ending ((line ++ codes "\n") ++ rest) → IsReached rules file format (suc number) (place + length r.bytes) rs ending rest
 reached_next {format = format} {number = number} {place = place} {r = r} {rs = rs} line rest plain reached =
     let lines_sum = length-append reached.lines (line ∷ []) in
     let records_sum = length-append reached.earlier (r ∷ []) in
@@ -164,3 +165,24 @@ reached_next {format = format} {number = number} {place = place} {r = r} {rs = r
       ends = reached.ends;
       text = reached.text ∙ one_more reached.lines line rest;
     }
+
+-- the last of records that are spelled is the end record, where it stands behind others
+last_of : (f : Framing) (number : ℕ) (bytes : List ℕ) (rs : List Record) (after : List ℕ) → Spells f number bytes rs after
+    → (earlier : List Record) (r : Record) → rs ≡ earlier ++ r ∷ [] → r.kind ≡ f.end_kind
+last_of f number bytes [] after h earlier r e = absurd h
+last_of f number bytes (q ∷ []) after h [] r e = let same : q ≡ r = cc in ap (λ (p : Record). p.kind) (sym same) ∙ h.last
+last_of f number bytes (q ∷ []) after h (p ∷ []) r e = absurd (cc)
+last_of f number bytes (q ∷ []) after h (p ∷ o ∷ ps) r e = absurd (cc)
+last_of f number bytes (q ∷ s ∷ rs) after h [] r e = absurd (cc)
+last_of f number bytes (q ∷ s ∷ rs) after h (p ∷ ps) r e =
+    last_of f (suc number) (rest_of f bytes) (s ∷ rs) after h.onward ps r (cc)
+
+-- so the record behind which nothing is left ends the file
+pub end_reached : (by_function : FramedByFunction) {rules : Rules} {file left : List ℕ} {format : FileFormat} {number place : ℕ} {r : Record} → IsReached rules file format number place (r ∷ []) None left → r.kind ≡ (framing_of format).end_kind
+end_reached by_function {file = file} {format = format} {r = r} reached =
+    let f = framing_of format in
+    let bytes = record_bytes format file in
+    let framed = framed_records format file in
+    let spells : Spells f 0 bytes framed.records framed.after =
+    subst (λ (fault : Option RecordFault). IsSpelledOrBroken f 0 bytes framed.records fault framed.after) reached.ends (by_function f bytes) in
+    last_of f 0 bytes framed.records framed.after spells reached.earlier r reached.among

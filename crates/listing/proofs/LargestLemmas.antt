@@ -10,6 +10,7 @@ use Rattle.draw_ops.specs.declared.fault.Fault.{Fault}
 use Rattle.draw_ops.specs.declared.fault.Fault.TheVariants.{Record}
 use Rattle.draw_ops.specs.declared.record_fault.RecordFault.{RecordFault}
 use Rattle.draw_ops.specs.declared.record_fault.RecordFault.TheVariants.{NibTooWide, OffPlane}
+use Rattle.draw_ops.specs.declared.rules.Rules.{Rules}
 use Rattle.object_tables.specs.Slots.{Slots}
 use Rattle.object_tables.specs.Table.{TableKind}
 use Rattle.dc_stack.specs.Drawing.{Drawing, drawing_nib, drawing_of, stroke_width}
@@ -20,8 +21,16 @@ use Rattle.dc_stack.specs.State.{DcValue, State}
 use Rattle.listing.specs.DryRunState.{without_pen}
 
 -- a state by its parts
-abbrev state_of : DcValue → Slots → TableKind → List DcValue → Path → State
-state_of dc slots kind saved path = record { dc = dc; slots = slots; table_kind = kind; saved = saved; path = path }
+abbrev state_of : DcValue → Slots → TableKind → List DcValue → Path → Rules → ℕ → State
+state_of dc slots kind saved path rules held = record {
+  dc = dc;
+  slots = slots;
+  table_kind = kind;
+  saved = saved;
+  path = path;
+  rules = rules;
+  held_deletions = held;
+}
 
 -- the width of a drawing's stroke, if there is one
 abbrev width_drawn : Option Drawing → ℕ
@@ -35,20 +44,20 @@ record IsBare (operation : Operation) (state : State) : Type 0 where
   plain :
       (plain_fault operation (without_pen state) ≡ plain_fault operation state) ⊎ ((s : Surface) → place_fault operation state s ≡ None)
 
-kept : (operation : Operation) (path : Path) (dc : DcValue) (slots : Slots) (kind : TableKind) (saved : List DcValue) → IsBare operation (state_of dc slots kind saved path)
-kept (delete index) path dc slots kind saved = record { points = refl; width = refl; plain = inr (λ s. refl) }
-kept (line_to point) no_path dc slots kind saved = record { points = refl; width = refl; plain = inl refl }
-kept (rectangle corners edges) no_path dc slots kind saved = record { points = refl; width = refl; plain = inl refl }
-kept (polyline lists) no_path dc slots kind saved = record { points = refl; width = refl; plain = inl refl }
-kept (polygon lists) no_path dc slots kind saved = record { points = refl; width = refl; plain = inl refl }
-kept (polyline_to points) no_path dc slots kind saved = record { points = refl; width = refl; plain = inl refl }
-kept fill_path no_path dc slots kind saved = record { points = refl; width = refl; plain = inl refl }
-kept stroke_path no_path dc slots kind saved = record { points = refl; width = refl; plain = inl refl }
-kept stroke_and_fill_path no_path dc slots kind saved = record { points = refl; width = refl; plain = inl refl }
-kept operation path dc slots kind saved = record { points = refl; width = refl; plain = inl refl }
+kept : (operation : Operation) (path : Path) (dc : DcValue) (slots : Slots) (kind : TableKind) (saved : List DcValue) (rules : Rules) (held : ℕ) → IsBare operation (state_of dc slots kind saved path rules held)
+kept (delete index) path dc slots kind saved rules held = record { points = refl; width = refl; plain = inr (λ s. refl) }
+kept (line_to point) no_path dc slots kind saved rules held = record { points = refl; width = refl; plain = inl refl }
+kept (rectangle corners edges) no_path dc slots kind saved rules held = record { points = refl; width = refl; plain = inl refl }
+kept (polyline lists) no_path dc slots kind saved rules held = record { points = refl; width = refl; plain = inl refl }
+kept (polygon lists) no_path dc slots kind saved rules held = record { points = refl; width = refl; plain = inl refl }
+kept (polyline_to points) no_path dc slots kind saved rules held = record { points = refl; width = refl; plain = inl refl }
+kept fill_path no_path dc slots kind saved rules held = record { points = refl; width = refl; plain = inl refl }
+kept stroke_path no_path dc slots kind saved rules held = record { points = refl; width = refl; plain = inl refl }
+kept stroke_and_fill_path no_path dc slots kind saved rules held = record { points = refl; width = refl; plain = inl refl }
+kept operation path dc slots kind saved rules held = record { points = refl; width = refl; plain = inl refl }
 
 bare : (operation : Operation) (state : State) → IsBare operation state
-bare operation state = kept operation state.path state.dc state.slots state.table_kind state.saved
+bare operation state = kept operation state.path state.dc state.slots state.table_kind state.saved state.rules state.held_deletions
 
 pub same_points : (operation : Operation) (state : State) → plane_points operation (without_pen state) ≡ plane_points operation state
 same_points operation state = (bare operation state).points

@@ -1,7 +1,8 @@
 -- The law of listings, of a file.
-use Rattle.std.proofs.Common.{◌≡◌, ◌≢◌, ℕ, ℤ, unsigned_abs, ◌+◌, ◌==◌, nat_lt, Bool, true, false, ◌&&◌, ◌||◌, not, if◌then◌else◌, List, [], ◌∷◌, length, drop, Option, Some, None, Result, Ok, Err, arith, refl, sym, ap, ◌∙◌}
+use Rattle.std.proofs.Common.{◌≡◌, ◌≢◌, ℕ, ℤ, unsigned_abs, ◌+◌, ◌==◌, nat_lt, Bool, true, false, ◌&&◌, ◌||◌, not, if◌then◌else◌, List, [], ◌∷◌, length, drop, Option, Some, None, Result, Ok, Err, arith, refl, sym, ap, subst, ◌∙◌}
 use Rattle.std.proofs.lemmas.List.Elements.{All-nil}
 use Rattle.std.specs.Option.{option_or}
+use Rattle.mapping.specs.Image.{Image}
 use Rattle.mapping.specs.Limits.{IsSurfaceSide, is_frame_side, surface_side_limit}
 use Rattle.mapping.specs.Nibs.{NibLaws}
 use Rattle.mapping.specs.PlacingLaws.{IsNoLarger}
@@ -9,9 +10,11 @@ use Rattle.mapping.specs.Surface.{Surface}
 use Rattle.draw_ops.specs.Content.{Content, StepValue}
 use Rattle.draw_ops.specs.Framed.{FramedByFunction, framed_of}
 use Rattle.draw_ops.specs.RecordContent.{content_of}
-use Rattle.draw_ops.specs.Records.{Framed, FramedInOneWay, Framing, IsFramed}
+use Rattle.draw_ops.specs.Records.{Framed, FramedInOneWay, Framing, IsFramed, IsSpelledOrBroken, Record, Spells}
+use Rattle.draw_ops.specs.Results.{result_map}
 use Rattle.draw_ops.specs.declared.fault.Fault.{Fault}
 use Rattle.draw_ops.specs.declared.fault.Fault.TheVariants.{BadHeader, NoFrame, NotMetafile, Record as InRecord, ShortHeader, TooLong}
+use Rattle.draw_ops.specs.declared.rules.Rules.{Rules}
 use Rattle.draw_ops.specs.declared.record_fault.RecordFault.{RecordFault}
 use Rattle.draw_ops.specs.declared.record_fault.RecordFault.TheVariants.{BoxTooSmall, NibTooSmall, WrongEntry}
 use Rattle.point_views.specs.Numbers.{number_at}
@@ -20,6 +23,7 @@ use Rattle.meta_headers.specs.EmfHeader.{bounds_height, bounds_width, emf_file, 
 use Rattle.meta_headers.specs.Headers.{OpenedValue, has_version, is_header, is_too_long}
 use Rattle.meta_headers.specs.Opening.{HasContentOf, framing_of, meaning_of, opened, record_bytes, surface_for}
 use Rattle.meta_headers.specs.OpeningLaws.{OpeningLaws}
+use Rattle.meta_headers.specs.OpeningRules.{opened_by, reopened}
 use Rattle.meta_headers.specs.PlaceableHeader.{box_dimensions, is_placeable, opened_placeable, placeable_file}
 use Rattle.meta_headers.specs.PlainHeader.{is_plain, opened_plain, plain_file, plain_with}
 use Rattle.meta_headers.specs.declared.opened.FileFormat.TheVariants.{Emf, Placeable, Plain}
@@ -29,17 +33,19 @@ use Rattle.dc_stack.specs.Next.{next}
 use Rattle.dc_stack.specs.OperationFault.{fault_of}
 use Rattle.dc_stack.specs.State.{State, start_of}
 use Rattle.preflight_cert.specs.Answer.{AnswersOpened, AnswersRead, answer_from, bound_of, rejects}
-use Rattle.preflight_cert.specs.CertificateReading.{CertificateValue, read_certificate}
+use Rattle.preflight_cert.specs.CertificateReading.{CertificateValue, read_certificate, rules_in}
 use Rattle.preflight_cert.specs.Checked.{check_of, checked, left_over}
 use Rattle.preflight_cert.specs.Entries.{covers, covers_nib, drawing_fault, entries_after, entry_fault}
-use Rattle.preflight_cert.specs.Stop.{Stop, broken_after, stop_at, stop_of, stopped, stopped_or}
-use Rattle.preflight_cert.specs.TextLaws.{TextLaws}
+use Rattle.preflight_cert.specs.Run.{Run, rejected}
+use Rattle.preflight_cert.specs.Stop.{Stop, end_of, stop_at, stop_of, stopped, stopped_or}
+use Rattle.preflight_cert.specs.TextLaws.{AreBytes, TextLaws}
 use Rattle.preflight_cert.specs.declared.certificate_entry.Entry.{Entry}
+use Rattle.preflight_cert.specs.declared.emf_plus.EmfPlus.{EmfPlus}
 use Rattle.meta_headers.specs.Formats.{format_of}
 use Rattle.listing.specs.Formats.{first_place}
 use Rattle.listing.specs.DryRunState.{dry_run_state_if, dry_run_state_of, start_dry_run}
 use Rattle.listing.specs.Listing.{framed_records, lines_of_framed, listing_of}
-use Rattle.listing.specs.ListingLaws.{IsOneLine, ListingLaws, ReportsEachRefusal, ReportsEachStop, ReportsStop}
+use Rattle.listing.specs.ListingLaws.{IsOneLine, ListingLaws, ReportsStop}
 use Rattle.listing.proofs.FileLemmas.{IsReached}
 use Rattle.listing.proofs.PaintingLemmas.{meets_faults, no_painting_off}
 use Rattle.listing.proofs.StopLemmas.{same_fault, reported}
@@ -113,16 +119,27 @@ up_from_smallest o width height wide high = record { width = wide.not_empty; hei
 up_to_largest : (o : OpenedValue) (width height : ℕ) → IsSurfaceSide width → IsSurfaceSide height → IsNoLarger (surface_for o width height) (surface_for o surface_side_limit surface_side_limit)
 up_to_largest o width height wide high = record { width = wide.within; height = high.within; frame_width = refl; frame_height = refl }
 
+-- nothing is found before the first record
+abbrev none_found : EmfPlus
+none_found = record { is_contained = false; is_drawn = false }
+
+-- under rules a file has the format that it has without them
+same_format : (rules : Rules) (file : List ℕ) (found : Result OpenedValue Fault) (o : OpenedValue) → opened file ≡ found → result_map (reopened rules) found ≡ Ok o → format_of file ≡ Some o.format
+same_format rules file (Err fault) o opens e = cc
+same_format rules file (Ok first) o opens e =
+    opened_format file first opens ∙ ap (λ (it : OpenedValue). Some it.format) (same_ok e)
+
 -- the listing of a file that opens
-listing_opened : (file : List ℕ) (o : OpenedValue) → opened file ≡ Ok o → listing_of file ≡ lines_of_framed o.format (Some (start_dry_run o)) 0 (first_place o.format) (framed_records o.format file)
-listing_opened file o opens =
-    let at_start : dry_run_state_of file ≡ Some (start_dry_run o) = ap dry_run_state_if opens in
-    rw (opened_format file o opens, at_start) refl
+listing_opened : (rules : Rules) (file : List ℕ) (o : OpenedValue) → opened_by rules file ≡ Ok o → listing_of rules file ≡ lines_of_framed o.format (Some (start_dry_run o)) 0 (first_place o.format) (framed_records o.format file)
+listing_opened rules file o opens =
+    let at_start : dry_run_state_of rules file ≡ Some (start_dry_run o) = ap dry_run_state_if opens in
+    let format : format_of file ≡ Some o.format = same_format rules file (opened file) o refl opens in
+    rw (format, at_start) refl
 
 -- so its first record is reached
-reached_first : (file : List ℕ) (o : OpenedValue) → opened file ≡ Ok o → IsReached file o.format 0 (first_place o.format) (framed_records o.format file).records (framed_records o.format file).fault (lines_of_framed o.format (Some (start_dry_run o)) 0 (first_place o.format) (framed_records o.format file))
-reached_first file o opens = record {
-  of_format = opened_format file o opens;
+reached_first : (rules : Rules) (file : List ℕ) (o : OpenedValue) → opened_by rules file ≡ Ok o → IsReached rules file o.format 0 (first_place o.format) (framed_records o.format file).records (framed_records o.format file).fault (lines_of_framed o.format (Some (start_dry_run o)) 0 (first_place o.format) (framed_records o.format file))
+reached_first rules file o opens = record {
+  of_format = same_format rules file (opened file) o refl opens;
   lines = [];
   earlier = [];
   reported = refl;
@@ -131,8 +148,14 @@ reached_first file o opens = record {
   begins = omega arith;
   among = refl;
   ends = refl;
-  text = listing_opened file o opens;
+  text = listing_opened rules file o opens;
 }
+
+-- framed records aren't none without a fault
+some_record : (f : Framing) (bytes : List ℕ) (framed : Framed) → IsFramed f 0 bytes framed → framed.records ≡ [] → framed.fault ≡ None → ⊥
+some_record f bytes framed is none whole =
+    let spells : Spells f 0 bytes framed.records framed.after = subst (λ (fault : Option RecordFault). IsSpelledOrBroken f 0 bytes framed.records fault framed.after) whole is in
+    subst (λ (rs : List Record). Spells f 0 bytes rs framed.after) none spells
 
 -- a fault of no record isn't one of a record
 in_a_record : {number : ℕ} {one other : Fault} → rejects (Some number) one ≡ rejects None other → ⊥
@@ -195,47 +218,50 @@ module _ {number : ℕ} {fault : RecordFault} where
       (stops_in_run steps after count (next step.operation state) s (entries_after (drawing_of step.operation state) entries) not_entry not_box not_nib) h
 
 -- where the content of a file's records stops, on a surface of allowed sides
-module _ (laws : FaultLaws) (nibs : NibLaws) (one : FramedInOneWay) (by_function : FramedByFunction) (opening : OpeningLaws) (file : List ℕ) where
-  reports_stop : (o : OpenedValue) (content : Content) (width height number : ℕ) (fault : RecordFault) → opened file ≡ Ok o → HasContentOf o.format (record_bytes o.format file) content → IsSurfaceSide width → IsSurfaceSide height → stop_of content (start_of o) (surface_for o width height) ≡ Some (stop_at number fault) → ReportsStop file number fault
+module _ (laws : FaultLaws) (nibs : NibLaws) (one : FramedInOneWay) (by_function : FramedByFunction) (opening : OpeningLaws) (rules : Rules) (file : List ℕ) where
+  reports_stop : (o : OpenedValue) (content : Content) (width height number : ℕ) (fault : RecordFault) → opened_by rules file ≡ Ok o → HasContentOf o.format (record_bytes o.format file) content → IsSurfaceSide width → IsSurfaceSide height → stop_of content (start_of o) (surface_for o width height) ≡ Some (stop_at number fault) → ReportsStop rules file number fault
   reports_stop o content width height number fault opens it wide high stops =
       let f = framing_of o.format in
       let framed = framed_records o.format file in
       let s = surface_for o width height in
-      let largest = opening.frame file o surface_side_limit surface_side_limit opens in
+      let largest = opening.frame rules file o surface_side_limit surface_side_limit opens in
       let decoded : content ≡ content_of f (meaning_of o.format) 0 framed =
       it.decoded ∙ ap (content_of f (meaning_of o.format) 0) (only_framed one by_function f (record_bytes o.format file) it.framed it.is_framed) in
       let all = content_of f (meaning_of o.format) 0 framed in
       let all_stop : stop_of all (start_of o) s ≡ Some (stop_at number fault) = ap (λ (c : Content). stop_of c (start_of o) s) (sym decoded) ∙ stops in
       let counted : 0 + length all.steps ≡ length all.steps = omega arith in
-      reported laws nibs by_function file o.format (surface_for o 1 1) s (surface_for o surface_side_limit surface_side_limit) (record { wide = largest.wide; high = largest.high }) largest
-      (up_from_smallest o width height wide high) (up_to_largest o width height wide high) (length all.steps) number fault
-      framed.records 0 (first_place o.format) framed.after framed.fault (start_of o) refl counted all_stop (reached_first file o opens)
+      reported laws nibs by_function rules o.rules file o.format (surface_for o 1 1) s (surface_for o surface_side_limit surface_side_limit) (record { wide = largest.wide; high = largest.high }) largest
+      (up_from_smallest o width height wide high) (up_to_largest o width height wide high) (length all.steps) number fault (end_of all (start_of o))
+      framed.records 0 (first_place o.format) framed.after framed.fault (start_of o) none_found refl counted refl all_stop
+      (some_record f (record_bytes o.format file) framed (by_function f (record_bytes o.format file))) (reached_first rules file o opens)
 
-  reports_each_stop : ReportsEachStop file
+  reports_each_stop : (width height : ℕ) (image : Image) (number : ℕ) (fault : RecordFault) → IsSurfaceSide width → IsSurfaceSide height
+      → Run rules file width height image (rejected (Some number) (InRecord fault)) → ReportsStop rules file number fault
   reports_each_stop width height image number fault wide high run =
       let s = surface_for run.headers width height in
       let stops : stop_of run.content (start_of run.headers) s ≡ Some (stop_at number fault) =
       run.stops ∙ ap (λ (h : RecordFault). Some (stop_at number h)) (sym (same_record run.in_record)) in
       reports_stop run.headers run.content width height number fault run.of_file.opens run.of_file.records wide high stops
 
-  reports_each_refusal : TextLaws → ReportsEachRefusal file
-  reports_each_refusal text certificate number fault bytes not_entry not_box not_nib answers = by_opening (opened file) refl answers
+  reports_refusal : TextLaws → (certificate : List ℕ) (number : ℕ) (fault : RecordFault) → AreBytes certificate → fault ≢ WrongEntry → fault ≢ BoxTooSmall → fault ≢ NibTooSmall
+      → AnswersOpened (opened_by rules file) file certificate (rejects (Some number) (InRecord fault)) → ReportsStop rules file number fault
+  reports_refusal text certificate number fault bytes not_entry not_box not_nib answers = by_opening (opened_by rules file) refl answers
     where
-      by_reading : (o : OpenedValue) → opened file ≡ Ok o → (read : Result CertificateValue Fault) → read_certificate certificate ≡ read → AnswersRead read o (record_bytes o.format file) (rejects (Some number) (InRecord fault)) → ReportsStop file number fault
+      by_reading : (o : OpenedValue) → opened_by rules file ≡ Ok o → (read : Result CertificateValue Fault) → read_certificate certificate ≡ read → AnswersRead read o (record_bytes o.format file) (rejects (Some number) (InRecord fault)) → ReportsStop rules file number fault
       by_reading o opens (Err e) reads h = absurd (in_a_record h)
       by_reading o opens (Ok c) reads h =
           let is = text.is_certificate certificate c bytes reads in
-          let stops = stops_in_run h.content.steps (broken_after (length h.content.steps) h.content.fault) (length h.content.steps) (start_of o) (bound_of o c) c.entries not_entry not_box not_nib (rejected_at number fault (check_of h.content (start_of o) (bound_of o c) c.entries) _ (sym h.answers)) in
+          let stops = stops_in_run h.content.steps (end_of h.content (start_of o)) (length h.content.steps) (start_of o) (bound_of o c) c.entries not_entry not_box not_nib (rejected_at number fault (check_of h.content (start_of o) (bound_of o c) c.entries) _ (sym h.answers)) in
           reports_stop o h.content c.max_width c.max_height number fault opens h.of_records is.wide is.high stops
 
-      by_opening : (open_or : Result OpenedValue Fault) → opened file ≡ open_or → AnswersOpened open_or file certificate (rejects (Some number) (InRecord fault)) → ReportsStop file number fault
+      by_opening : (open_or : Result OpenedValue Fault) → opened_by rules file ≡ open_or → AnswersOpened open_or file certificate (rejects (Some number) (InRecord fault)) → ReportsStop rules file number fault
       by_opening (Err e) opens h = absurd (in_a_record h)
       by_opening (Ok o) opens h = by_reading o opens (read_certificate certificate) refl h
 
 pub listing_laws : FaultLaws → NibLaws → FramedInOneWay → FramedByFunction → OpeningLaws → TextLaws → ListingLaws
 listing_laws laws nibs one by_function opening text = record {
-  stops = reports_each_stop laws nibs one by_function opening;
-  refusals = λ file. reports_each_refusal laws nibs one by_function opening file text;
+  stops = λ file rules. reports_each_stop laws nibs one by_function opening rules file;
+  refusals = λ file certificate. reports_refusal laws nibs one by_function opening (rules_in certificate) file text certificate;
   runs = meets_faults;
   paintings = no_painting_off;
 }

@@ -9,5 +9,6 @@ pub mod PaintingLemmas
 pub mod PlainTexts
 pub mod PlainLines
 pub mod FileLemmas
+pub mod EndLemmas
 pub mod StopLemmas
 pub mod LawLemmas

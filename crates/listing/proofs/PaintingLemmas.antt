@@ -1,5 +1,5 @@
 -- What runs make of a path's painting, on a surface and on a larger one.
-use Rattle.std.proofs.Common.{◌≡◌, ◌≢◌, inl, ℕ, Bool, true, false, nat_le, if◌then◌else◌, List, Option, Some, None, refl, sym, ◌∙◌, arith}
+use Rattle.std.proofs.Common.{◌≡◌, ◌≢◌, inl, ℕ, Bool, true, false, ◌&&◌, not, nat_le, if◌then◌else◌, List, Option, Some, None, refl, sym, ◌∙◌, arith}
 use Rattle.std.specs.Option.{option_map, option_or}
 use Rattle.mapping.specs.Nibs.{CoversNib, NibLaws, is_nib, nib_from, nib_of, nib_true}
 use Rattle.mapping.specs.Plane.{MapNumbers}
@@ -8,8 +8,9 @@ use Rattle.mapping.specs.Surface.{Surface}
 use Rattle.draw_ops.specs.Operation.{Operation, fill_path, stroke_and_fill_path, stroke_path}
 use Rattle.draw_ops.specs.declared.fault.Fault.{Fault}
 use Rattle.draw_ops.specs.declared.fault.Fault.TheVariants.{Record}
+use Rattle.draw_ops.specs.RuleSets.{allows_emf_plus}
 use Rattle.draw_ops.specs.declared.record_fault.RecordFault.{RecordFault}
-use Rattle.draw_ops.specs.declared.record_fault.RecordFault.TheVariants.{NibTooWide, OffPlane, PathState, TooManyEdges}
+use Rattle.draw_ops.specs.declared.record_fault.RecordFault.TheVariants.{EmfPlusAlone, NibTooWide, OffPlane, PathState, TooManyEdges}
 use Rattle.dc_stack.specs.Drawing.{Drawing, Tools, drawing_edges, drawing_nib, drawing_of, edge_limit, figures_painted, stroke_width, tools_of}
 use Rattle.dc_stack.specs.FaultLaws.{FaultLaws}
 use Rattle.dc_stack.specs.Figures.{Figure}
@@ -18,6 +19,7 @@ use Rattle.dc_stack.specs.Path.{Path, figures_to_paint, finished_path, is_finish
 use Rattle.dc_stack.specs.State.{State}
 use Rattle.dc_stack.specs.declared.draw.Painting.{Painting}
 use Rattle.dc_stack.specs.declared.draw.Painting.TheVariants.{Fill, Stroke, StrokeAndFill}
+use Rattle.preflight_cert.specs.EmfPlus.{is_emf_plus_alone}
 use Rattle.listing.specs.DryRunState.{PathLands, fault_met, is_painting, met_in_painting}
 use Rattle.listing.specs.ListingLaws.{MeetsFaults, NoPaintingIsOffPlane}
 use Rattle.listing.proofs.PathLemmas.{lands_after}
@@ -123,8 +125,16 @@ never_off stroke_and_fill_path state s h =
 never_off operation state s h = cc
 
 pub no_painting_off : NoPaintingIsOffPlane
-no_painting_off None step h = λ e. cc
-no_painting_off (Some dry_run_state) step h = never_off step.operation dry_run_state.state dry_run_state.largest h
+no_painting_off is_end None step h = λ e. cc
+no_painting_off is_end (Some dry_run_state) step h =
+    by_two (fault_met step.operation dry_run_state.state dry_run_state.largest)
+    (is_end && (is_emf_plus_alone dry_run_state.rules dry_run_state.found && not (allows_emf_plus dry_run_state.rules)))
+    (never_off step.operation dry_run_state.state dry_run_state.largest h)
+  where
+    by_two : (met : Option RecordFault) (alone : Bool) → met ≢ Some OffPlane → option_or met (if alone then Some EmfPlusAlone else None) ≢ Some OffPlane
+    by_two None true off = λ e. cc
+    by_two None false off = λ e. cc
+    by_two (Some fault) alone off = off
 
 -- in a run the fault that is met is the operation's
 by_kind : (operation : Operation) (state : State) (s : Surface) (b : Bool) → is_painting operation ≡ b → PathLands state.path s → (if b then met_in_painting operation state s else fault_of operation state s) ≡ fault_of operation state s

@@ -1,17 +1,23 @@
 -- The faults that a file's records have in its runs, on surfaces of any size.
-use Rattle.std.specs.Prelude.{◌≡◌, ℕ, Bool, true, false, if◌then◌else◌, List, [], Option, Some, None, Result, Ok, Err}
+use Rattle.std.specs.Prelude.{◌≡◌, ℕ, Bool, true, false, ◌&&◌, ◌||◌, not, if◌then◌else◌, List, [], Option, Some, None, is_some, Result, Ok, Err}
 use Rattle.std.specs.Option.{option_map, option_or}
 use Rattle.mapping.specs.Limits.{surface_side_limit}
 use Rattle.mapping.specs.PlacingLaws.{IsNoLarger, ShowsFrame}
 use Rattle.mapping.specs.Surface.{Surface}
 use Rattle.mapping.specs.declared.geometry.Point.{Point}
 use Rattle.draw_ops.specs.Content.{StepValue}
+use Rattle.draw_ops.specs.NoteKinds.{is_noted}
 use Rattle.draw_ops.specs.Operation.{Operation, fill_path, select, stroke_and_fill_path, stroke_path}
+use Rattle.draw_ops.specs.RuleSets.{allows_emf_plus}
 use Rattle.draw_ops.specs.declared.fault.Fault.{Fault}
 use Rattle.draw_ops.specs.declared.fault.Fault.TheVariants.{Record}
+use Rattle.draw_ops.specs.declared.note.Note.TheVariants.{EmfPlus as EmfPlusNote}
 use Rattle.draw_ops.specs.declared.record_fault.RecordFault.{RecordFault}
+use Rattle.draw_ops.specs.declared.record_fault.RecordFault.TheVariants.{EmfPlusAlone}
+use Rattle.draw_ops.specs.declared.rules.Rules.{Rules}
 use Rattle.meta_headers.specs.Headers.{OpenedValue}
-use Rattle.meta_headers.specs.Opening.{opened, surface_for}
+use Rattle.meta_headers.specs.Opening.{surface_for}
+use Rattle.meta_headers.specs.OpeningRules.{opened_by}
 use Rattle.dc_stack.specs.Drawing.{drawing_of}
 use Rattle.dc_stack.specs.Figures.{all_figures, points_of_figures}
 use Rattle.dc_stack.specs.MachineState.{HasFullCapacity, IsDrawingOf, IsExtentOf, MachineState}
@@ -20,11 +26,15 @@ use Rattle.dc_stack.specs.OperationFault.{all_land_within, fault_of, nib_fault, 
 use Rattle.dc_stack.specs.Path.{Path, finished_path, no_path, open_path}
 use Rattle.dc_stack.specs.State.{State, start_of}
 use Rattle.dc_stack.specs.declared.draw.Draw.{Draw}
+use Rattle.preflight_cert.specs.EmfPlus.{is_emf_plus_alone}
+use Rattle.preflight_cert.specs.declared.emf_plus.EmfPlus.{EmfPlus}
 
--- What determines a record's fault, as long as a run may reach it: the state after the records before it, and the
--- smallest and the largest surface.
+-- What determines a record's fault, as long as a run may reach it: the state after the records before it, the rules,
+-- whether those records contain EMF+ and whether they draw, and the smallest and the largest surface.
 pub record DryRunState : Type 0 where
   pub state : State
+  pub rules : Rules
+  pub found : EmfPlus
   pub smallest : Surface
   pub largest : Surface
 
@@ -54,27 +64,43 @@ met_in_painting operation state s = option_or (plain_fault operation state) (nib
 abbrev pub fault_met : Operation → State → Surface → Option RecordFault
 fault_met operation state s = if is_painting operation then met_in_painting operation state s else fault_of operation state s
 
--- The fault of a step in runs: the one in its operation on the largest surface. A run that stops at it on some surface
--- has the same fault, or else a nib that is too wide while it is off the plane on the largest. There is none after a
--- record at which every run stops.
-abbrev pub run_fault : Option DryRunState → StepValue → Option RecordFault
-run_fault None step = None
-run_fault (Some dry_run_state) step = fault_met step.operation dry_run_state.state dry_run_state.largest
+-- the fault of the end record, if the records before it contain EMF+ and don't draw, unless the rules allow that
+abbrev pub end_fault : Bool → Rules → EmfPlus → Option RecordFault
+end_fault is_end rules found =
+    if is_end && (is_emf_plus_alone rules found && not (allows_emf_plus rules)) then Some EmfPlusAlone else None
+
+-- The fault of a step in runs, which is that of the end record or not: the one in its operation on the largest surface,
+-- or else that of EMF+ without a drawing. A run that stops at it on some surface has the same fault, or else a nib that
+-- is too wide while it is off the plane on the largest. There is none after a record at which every run stops.
+abbrev pub run_fault : Bool → Option DryRunState → StepValue → Option RecordFault
+run_fault is_end None step = None
+run_fault is_end (Some dry_run_state) step =
+    option_or (fault_met step.operation dry_run_state.state dry_run_state.largest)
+    (end_fault is_end dry_run_state.rules dry_run_state.found)
 
 -- the fault in runs of a decoded record; a fault of its meaning comes before any fault of a run
-abbrev pub fault_in_runs : Option DryRunState → Result StepValue RecordFault → Option RecordFault
-fault_in_runs dry_run_state (Err fault) = None
-fault_in_runs dry_run_state (Ok step) = run_fault dry_run_state step
+abbrev pub fault_in_runs : Bool → Option DryRunState → Result StepValue RecordFault → Option RecordFault
+fault_in_runs is_end dry_run_state (Err fault) = None
+fault_in_runs is_end dry_run_state (Ok step) = run_fault is_end dry_run_state step
 
 -- after an operation without a fault on the smallest surface a run continues; with a fault there, every run stops
 abbrev pub gone_on : Option RecordFault → DryRunState → Option DryRunState
 gone_on None dry_run_state = Some dry_run_state
 gone_on (Some fault) dry_run_state = None
 
--- what determines the faults after an operation, if a run continues
-abbrev pub after_operation : Operation → DryRunState → DryRunState
-after_operation operation dry_run_state = record {
-  state = next operation dry_run_state.state;
+-- whether records contain EMF+ and whether they draw, with one more step in a state
+abbrev pub found_with : EmfPlus → StepValue → State → EmfPlus
+found_with found step state = record {
+  is_contained = found.is_contained || is_noted step.notes EmfPlusNote;
+  is_drawn = found.is_drawn || is_some (drawing_of step.operation state);
+}
+
+-- what determines the faults after a step, if a run continues
+abbrev pub after_played : StepValue → DryRunState → DryRunState
+after_played step dry_run_state = record {
+  state = next step.operation dry_run_state.state;
+  rules = dry_run_state.rules;
+  found = found_with dry_run_state.found step dry_run_state.state;
   smallest = dry_run_state.smallest;
   largest = dry_run_state.largest;
 }
@@ -83,7 +109,7 @@ after_operation operation dry_run_state = record {
 abbrev pub after_step : Option DryRunState → StepValue → Option DryRunState
 after_step None step = None
 after_step (Some dry_run_state) step =
-    gone_on (fault_of step.operation dry_run_state.state dry_run_state.smallest) (after_operation step.operation dry_run_state)
+    gone_on (fault_of step.operation dry_run_state.state dry_run_state.smallest) (after_played step dry_run_state)
 
 -- what determines the faults after a record; every run stops at a fault of meaning
 abbrev pub after_record : Option DryRunState → Result StepValue RecordFault → Option DryRunState
@@ -94,6 +120,8 @@ after_record dry_run_state (Ok step) = after_step dry_run_state step
 abbrev pub start_dry_run : OpenedValue → DryRunState
 start_dry_run o = record {
   state = start_of o;
+  rules = o.rules;
+  found = record { is_contained = false; is_drawn = false };
   smallest = surface_for o 1 1;
   largest = surface_for o surface_side_limit surface_side_limit;
 }
@@ -103,8 +131,9 @@ abbrev pub dry_run_state_if : Result OpenedValue Fault → Option DryRunState
 dry_run_state_if (Err fault) = None
 dry_run_state_if (Ok o) = Some (start_dry_run o)
 
-abbrev pub dry_run_state_of : List ℕ → Option DryRunState
-dry_run_state_of file = dry_run_state_if (opened file)
+-- the same by the rules and the bytes of a file
+abbrev pub dry_run_state_of : Rules → List ℕ → Option DryRunState
+dry_run_state_of rules file = dry_run_state_if (opened_by rules file)
 
 -- an operation has this fault of a record on a surface
 abbrev pub HasFault : Operation → State → Surface → Fault → Type 0

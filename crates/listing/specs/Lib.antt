@@ -8,6 +8,7 @@ pub mod Listing
 pub mod FileRecords
 pub mod ListingLaws
 pub mod Putting
+pub mod Sent
 pub mod SameStep
 pub mod WmfNames
 pub mod EmfNames

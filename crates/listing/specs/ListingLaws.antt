@@ -1,5 +1,5 @@
 -- What a listing says about the records in which runs of the file stop.
-use Rattle.std.specs.Prelude.{◌≡◌, ◌≢◌, ◌⊎◌, ℕ, List, ◌++◌, length, codes, true, Option, Some, None}
+use Rattle.std.specs.Prelude.{◌≡◌, ◌≢◌, ◌⊎◌, ℕ, Bool, List, ◌++◌, length, codes, true, Option, Some, None}
 use Rattle.std.specs.List.{All, flat_map}
 use Rattle.mapping.specs.Image.{Image}
 use Rattle.mapping.specs.Limits.{IsSurfaceSide}
@@ -9,6 +9,7 @@ use Rattle.draw_ops.specs.Operation.{Operation}
 use Rattle.draw_ops.specs.Records.{Record}
 use Rattle.draw_ops.specs.declared.fault.Fault.TheVariants.{Record as InRecord}
 use Rattle.draw_ops.specs.declared.record_fault.RecordFault.{RecordFault}
+use Rattle.draw_ops.specs.declared.rules.Rules.{Rules}
 use Rattle.draw_ops.specs.declared.record_fault.RecordFault.TheVariants.{BoxTooSmall, NibTooSmall, NibTooWide, OffPlane, WrongEntry}
 use Rattle.meta_headers.specs.Headers.{OpenedValue}
 use Rattle.meta_headers.specs.declared.opened.FileFormat.{FileFormat}
@@ -16,6 +17,7 @@ use Rattle.dc_stack.specs.Next.{next}
 use Rattle.dc_stack.specs.OperationFault.{fault_of}
 use Rattle.dc_stack.specs.State.{State, start_of}
 use Rattle.preflight_cert.specs.Answer.{IsAnswer, rejects}
+use Rattle.preflight_cert.specs.CertificateReading.{rules_in}
 use Rattle.preflight_cert.specs.Run.{Run, rejected}
 use Rattle.preflight_cert.specs.TextLaws.{AreBytes}
 use Rattle.listing.specs.FileRecords.{BreaksAt, HasRecord}
@@ -45,47 +47,47 @@ rejected_line format number place r fault = head_of format number place r ++ rej
 
 -- the line with this number says that the file's record with this number is rejected with this fault, and where it
 -- begins
-pub record ReportsRejected (file : List ℕ) (number : ℕ) (fault : RecordFault) : Type 0 where
+pub record ReportsRejected (rules : Rules) (file : List ℕ) (number : ℕ) (fault : RecordFault) : Type 0 where
   pub format : FileFormat
   pub place : ℕ
   pub r : Record
   pub its_own : HasRecord file format number place r
-  pub line : HasLine (listing_of file) number (rejected_line format number place r fault)
+  pub line : HasLine (listing_of rules file) number (rejected_line format number place r fault)
 
 -- the line with this number says that the file's records break there by this fault
-pub record ReportsBreak (file : List ℕ) (number : ℕ) (fault : RecordFault) : Type 0 where
+pub record ReportsBreak (rules : Rules) (file : List ℕ) (number : ℕ) (fault : RecordFault) : Type 0 where
   pub format : FileFormat
   pub place : ℕ
   pub its_own : BreaksAt file format number place fault
-  pub line : HasLine (listing_of file) number (fault_line number place fault)
+  pub line : HasLine (listing_of rules file) number (fault_line number place fault)
 
 -- the listing says that the record is rejected with this fault, or that the records break there by it
-abbrev pub ReportsFault : List ℕ → ℕ → RecordFault → Type 0
-ReportsFault file number fault = ReportsRejected file number fault ⊎ ReportsBreak file number fault
+abbrev pub ReportsFault : Rules → List ℕ → ℕ → RecordFault → Type 0
+ReportsFault rules file number fault = ReportsRejected rules file number fault ⊎ ReportsBreak rules file number fault
 
 -- a run's nib is too wide in the record with this number, and its line says that it is off the plane, as it is on a
 -- larger surface
-pub record ReportsOffPlane (file : List ℕ) (number : ℕ) (fault : RecordFault) : Type 0 where
+pub record ReportsOffPlane (rules : Rules) (file : List ℕ) (number : ℕ) (fault : RecordFault) : Type 0 where
   pub too_wide : fault ≡ NibTooWide
-  pub off : ReportsRejected file number OffPlane
+  pub off : ReportsRejected rules file number OffPlane
 
 -- the listing has a run's fault, or says that the record is off the plane instead of having a nib that is too wide
-abbrev pub ReportsStop : List ℕ → ℕ → RecordFault → Type 0
-ReportsStop file number fault = ReportsFault file number fault ⊎ ReportsOffPlane file number fault
+abbrev pub ReportsStop : Rules → List ℕ → ℕ → RecordFault → Type 0
+ReportsStop rules file number fault = ReportsFault rules file number fault ⊎ ReportsOffPlane rules file number fault
 
--- Wherever a run of the file stops in a record, on a surface of a valid size, the record's line has the same fault; or
--- the fault is a nib that is too wide, and the line says that the record is off the plane.
+-- Wherever a run of the file under rules stops in a record, on a surface of a valid size, the record's line under these
+-- rules has the same fault; or the fault is a nib that is too wide, and the line says that the record is off the plane.
 abbrev pub ReportsEachStop : List ℕ → Type 0
 ReportsEachStop file =
-    (width height : ℕ) (image : Image) (number : ℕ) (fault : RecordFault) → IsSurfaceSide width → IsSurfaceSide height
-    → Run file width height image (rejected (Some number) (InRecord fault)) → ReportsStop file number fault
+    (rules : Rules) (width height : ℕ) (image : Image) (number : ℕ) (fault : RecordFault) → IsSurfaceSide width → IsSurfaceSide height
+    → Run rules file width height image (rejected (Some number) (InRecord fault)) → ReportsStop rules file number fault
 
--- Wherever a certificate is rejected in a record of the file, the record's line has the same fault, unless it is that
--- of the certificate's own entry.
+-- Wherever a certificate is rejected in a record of the file, the record's line under the certificate's rules has the
+-- same fault, unless it is that of the certificate's own entry.
 abbrev pub ReportsEachRefusal : List ℕ → Type 0
 ReportsEachRefusal file =
     (certificate : List ℕ) (number : ℕ) (fault : RecordFault) → AreBytes certificate → fault ≢ WrongEntry → fault ≢ BoxTooSmall → fault ≢ NibTooSmall
-    → IsAnswer file certificate (rejects (Some number) (InRecord fault)) → ReportsStop file number fault
+    → IsAnswer file certificate (rejects (Some number) (InRecord fault)) → ReportsStop (rules_in certificate) file number fault
 
 -- on a surface, the fault in runs is the operation's: the path's points land there at the start, and after each
 -- operation without a fault
@@ -98,7 +100,9 @@ pub record MeetsFaults : Type 0 where
 
 -- no line says that the painting of a path is off the plane
 abbrev pub NoPaintingIsOffPlane : Type 0
-NoPaintingIsOffPlane = (dry_run_state : Option DryRunState) (step : StepValue) → is_painting step.operation ≡ true → run_fault dry_run_state step ≢ Some OffPlane
+NoPaintingIsOffPlane =
+    (is_end : Bool) (dry_run_state : Option DryRunState) (step : StepValue) → is_painting step.operation ≡ true
+    → run_fault is_end dry_run_state step ≢ Some OffPlane
 
 -- for each file the statements above hold, so that its listing has the faults of its runs
 pub record ListingLaws : Type 0 where

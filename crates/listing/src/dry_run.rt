@@ -12,17 +12,17 @@ ghost use Rattle.meta_headers.specs.OpenedOf.{opened_of};
 ghost use Rattle.mapping.specs.PlaceOf.{surface_of};
 ghost use Rattle.dc_stack.specs.OperationFault.{fault_of};
 ghost use Rattle.preflight_cert.specs.Reached.{Opens};
-ghost use Rattle.listing.specs.DryRunState.{HasFault, after_operation, after_record, after_step, fault_in_runs, fault_met, dry_run_state_of};
+ghost use Rattle.listing.specs.DryRunState.{HasFault, after_played, after_record, after_step, end_fault, fault_in_runs, fault_met, dry_run_state_of};
 ghost use Rattle.listing.specs.DryRunState.{run_fault, start_dry_run};
 
 use crate::largest::{fault_met, is_painting, too_wide};
 use canvas::OutOfMemory;
 use dc_stack::{Draw, MAX_PIECES, MAX_SAVED_STATES, Machine, fault_law};
-use draw_ops::{Fault, Op, RecordFault, Step};
+use draw_ops::{Fault, Op, RecordFault, Rules, Step};
 use mapping::{MAX_SURFACE_SIDE, Place, nib_law};
-use meta_headers::{Opened, open_file};
+use meta_headers::{Opened, open_file_by};
 use object_tables::{FileTable, Table, full_slots};
-use preflight_cert::need_law;
+use preflight_cert::{EmfPlus, need_law};
 use std::alloc::Global;
 use std::marker::Model;
 
@@ -30,6 +30,9 @@ use std::marker::Model;
 #[derive(Drop)]
 struct SmallestRun<'a> {
     machine: Machine<'a, FileTable<'a>>,
+    rules: Rules,
+    /// Whether the records so far contain EMF+, and whether they draw.
+    found: EmfPlus,
     largest: Place,
 }
 
@@ -39,7 +42,7 @@ impl<'a> Model for SmallestRun<'a> {
 
     ghost Value = { DryRunState };
 
-    ghost view = { λ r. record { state = r.machine.state; smallest = r.machine.surface; largest = surface_of r.largest } };
+    ghost view = { λ r. record { state = r.machine.state; rules = r.rules; found = r.found; smallest = r.machine.surface; largest = surface_of r.largest } };
 
     ghost invariant = { λ r. IsOnItsWay r.machine (surface_of r.largest) };
 }
@@ -49,32 +52,50 @@ impl<'a> SmallestRun<'a> {
     fn new(alloc: Global, opened: &Opened<'a>) -> Result<SmallestRun<'a>, OutOfMemory>
         ensures { IfOk result (λ run. run ≡ start_dry_run (opened_of opened.now)) }
     {
-        let smallest = Place::new(&opened.frame, 1, 1);
-        let largest = Place::new(&opened.frame, MAX_SURFACE_SIDE, MAX_SURFACE_SIDE);
+        let smallest = Place::new(&opened.fine_frame, 1, 1);
+        let largest = Place::new(&opened.fine_frame, MAX_SURFACE_SIDE, MAX_SURFACE_SIDE);
         let table = FileTable::new(alloc, opened.handles);
         let mut machine = Machine::new(alloc, opened, smallest, table);
         let slots = full_slots(opened.handles);
         match machine.reserve(MAX_SAVED_STATES, slots, MAX_PIECES) {
-            Ok(()) => Ok(SmallestRun { machine, largest }),
+            Ok(()) => Ok(SmallestRun {
+                machine,
+                rules: opened.rules,
+                found: EmfPlus::NONE,
+                largest,
+            }),
             Err(_) => Err(OutOfMemory),
         }
     }
 
-    /// Plays an operation, and returns the fault that runs have in it only on the largest surface. Fails with the fault
-    /// on the smallest surface, and then nothing has changed.
-    fn play(&mut self, op: &Op<'a>) -> Result<Option<RecordFault>, Fault>
-        ensures no_fault { OnOk result (fault_of (operation_of op.now) self.old.state self.old.smallest ≡ None) }
-        ensures there { IfOk result (λ found. found ≡ fault_met (operation_of op.now) self.old.state self.old.largest) }
-        ensures played { OnOk result (self.new ≡ after_operation (operation_of op.now) self.old) }
-        ensures on_smallest { IfErr result (HasFault (operation_of op.now) self.old.state self.old.smallest) }
+    /// Plays a step, and returns the fault that runs have in it only on the largest surface. Fails with the fault on the
+    /// smallest surface, and then nothing has changed.
+    fn play(&mut self, step: &Step<'a>) -> Result<Option<RecordFault>, Fault>
+        ensures no_fault { OnOk result (fault_of (operation_of step.now.op) self.old.state self.old.smallest ≡ None) }
+        ensures there { IfOk result (λ it. it ≡ fault_met (operation_of step.now.op) self.old.state self.old.largest) }
+        ensures played { OnOk result (self.new ≡ after_played (step_value_of step.now) self.old) }
+        ensures on_smallest { IfErr result (HasFault (operation_of step.now.op) self.old.state self.old.smallest) }
         ensures kept { OnErr result (self.new ≡ self.old) }
     {
         need_law();
         let mut drawn: Option<Draw<'a>> = None;
-        match self.machine.step_into(op, &mut drawn) {
-            Ok(()) => Ok(fault_met(&self.machine, op, &drawn, self.largest)),
+        match self.machine.step_into(&step.op, &mut drawn) {
+            Ok(()) => {
+                self.found = self.found.with(step.notes, drawn.is_some());
+                Ok(fault_met(&self.machine, &step.op, &drawn, self.largest))
+            }
             Err(fault) => Err(fault),
         }
+    }
+
+    /// The fault of the end record, if the records before it contain EMF+ and don't draw, unless the rules allow that.
+    fn end_fault(&self, is_end: bool) -> Option<RecordFault>
+        ensures { result ≡ end_fault is_end self.now.rules self.now.found }
+    {
+        if is_end && self.found.is_alone(self.rules) && !self.rules.allows_emf_plus() {
+            return Some(RecordFault::EmfPlusAlone);
+        }
+        None
     }
 
     /// The fault that runs have on the largest surface in an operation that has this fault on the smallest. The run is
@@ -114,13 +135,13 @@ impl<'a> Model for DryRun<'a> {
 }
 
 impl<'a> DryRun<'a> {
-    /// Finds the faults of a file's records from the first one on, and none if the file doesn't open. All memory is
-    /// allocated here; its amount depends only on the file's headers.
-    pub fn new(alloc: Global, file: &'a [u8]) -> Result<DryRun<'a>, OutOfMemory>
-        ensures start { IfOk result (λ dry_run. dry_run ≡ dry_run_state_of file.entry.now) }
+    /// Finds the faults of a file's records under these rules from the first one on, and none if the file doesn't open.
+    /// All memory is allocated here; its amount depends only on the file's headers.
+    pub fn new(alloc: Global, rules: Rules, file: &'a [u8]) -> Result<DryRun<'a>, OutOfMemory>
+        ensures start { IfOk result (λ dry_run. dry_run ≡ dry_run_state_of rules file.entry.now) }
         ensures opens { OnErr result (Opens file.entry.now) }
     {
-        let opened = match open_file(file) {
+        let opened = match open_file_by(rules, file) {
             Ok(opened) => opened,
             Err(_) => return Ok(DryRun { run: None }),
         };
@@ -130,32 +151,37 @@ impl<'a> DryRun<'a> {
         }
     }
 
-    /// The fault that the next record has in runs, by its decoded step.
-    pub fn try_step(&mut self, decoded: &Result<Step<'a>, RecordFault>) -> Option<RecordFault>
-        ensures fault { result ≡ fault_in_runs self.old (result_map step_value_of decoded.now) }
+    /// The fault that the next record has in runs, by its decoded step, and by whether it is the end record.
+    pub fn try_step(
+        &mut self,
+        decoded: &Result<Step<'a>, RecordFault>,
+        is_end: bool,
+    ) -> Option<RecordFault>
+        ensures fault { result ≡ fault_in_runs is_end self.old (result_map step_value_of decoded.now) }
         ensures after { self.new ≡ after_record self.old (result_map step_value_of decoded.now) }
     {
         let Ok(step) = decoded else {
             self.run = None;
             return None;
         };
-        self.dry_run_step(step)
+        self.dry_run_step(step, is_end)
     }
 
     /// The fault that the next record's step has in runs.
-    fn dry_run_step(&mut self, step: &Step<'a>) -> Option<RecordFault>
-        ensures fault { result ≡ run_fault self.old (step_value_of step.now) }
+    fn dry_run_step(&mut self, step: &Step<'a>, is_end: bool) -> Option<RecordFault>
+        ensures fault { result ≡ run_fault is_end self.old (step_value_of step.now) }
         ensures after { self.new ≡ after_step self.old (step_value_of step.now) }
     {
         let Some(run) = &mut self.run else {
             return None;
         };
-        match run.play(&step.op) {
-            Ok(found) => found,
+        let end = run.end_fault(is_end);
+        match run.play(step) {
+            Ok(met) => met.or(end),
             Err(fault) => {
-                let found = run.stopped_by(&step.op, fault);
+                let met = run.stopped_by(&step.op, fault);
                 self.run = None;
-                found
+                met.or(end)
             }
         }
     }

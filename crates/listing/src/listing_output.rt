@@ -1,12 +1,10 @@
 //! Writing the listing of a file.
 
 ghost use Rattle.std.specs.Prelude.{◌≡◌, ◌+◌, ◌-◌, ◌^◌, ◌<◌, ◌≤◌, IfOk, OnErr, OnOk, length};
-ghost use Rattle.std.specs.Io.KnownBytes.{Appends};
-ghost use Rattle.canvas.specs.Ppm.{AppendsPrefix};
 ghost use Rattle.meta_headers.specs.Opening.{framing_of};
-ghost use Rattle.listing.specs.DryRunState.{dry_run_state_of};
-ghost use Rattle.listing.specs.Listing.{framed_records, listed_by, listed_of, listing_in, listing_of, no_format_line};
+ghost use Rattle.listing.specs.Listing.{framed_records, listed_by, listed_of, listing_in, listing_with, no_format_line};
 ghost use Rattle.listing.specs.Putting.{PutsNext, coming};
+ghost use Rattle.listing.specs.Sent.{Sends, SendsPrefix};
 ghost use Rattle.canvas.specs.Sending.{Sending};
 
 use crate::dry_run::DryRun;
@@ -26,7 +24,7 @@ use wmf_records::Wmf;
 /// The capacity for a line, in bytes.
 const LINE_CAPACITY: usize = 512;
 
-/// Writes a line for each record of a file, from the first one on, and returns how they end. The judge, which is at the
+/// Writes a line for each record of a file, from the first one on, and returns how they end. The dry run, which is at the
 /// first record, finds the fault that runs of the file have in each, on surfaces of any size. That fault is on the
 /// record's line, unless its meaning has a fault. The listing continues after a fault, and ends with a framing fault.
 /// No memory is allocated, and nothing is flushed.
@@ -35,10 +33,9 @@ pub fn write_listing<'a, W: Write>(
     mut dry_run: DryRun<'a>,
     out: &mut W,
 ) -> Result<ListingEnd, WriteFault>
-    requires { dry_run ≡ dry_run_state_of file.now }
     ensures listed { IfOk result (λ listed. listed ≡ listed_of file.now) }
-    ensures ok { OnOk result (Appends (W.contents out.old) (W.contents out.new) (listing_of file.now)) }
-    ensures err { OnErr result (AppendsPrefix (W.contents out.old) (W.contents out.new) (listing_of file.now)) }
+    ensures ok { OnOk result (Sends W.contents out.old out.new (listing_with dry_run.entry file.now)) }
+    ensures err { OnErr result (SendsPrefix W.contents out.old out.new (listing_with dry_run.entry file.now)) }
 {
     write_by::<W, Uncounted>(file, &mut dry_run, out)
 }
@@ -50,11 +47,10 @@ pub fn write_listing_to<'a, W: FaultCount>(
     mut dry_run: DryRun<'a>,
     out: &mut W,
 ) -> Result<ListingEnd, WriteFault>
-    requires dry_run { dry_run ≡ dry_run_state_of file.now }
     requires capacity { W.fault_count out.old < 2 ^ 64 - 1 }
     ensures listed { IfOk result (λ listed. listed ≡ listed_of file.now) }
-    ensures ok { OnOk result (Appends (W.contents out.old) (W.contents out.new) (listing_of file.now)) }
-    ensures err { OnErr result (AppendsPrefix (W.contents out.old) (W.contents out.new) (listing_of file.now)) }
+    ensures ok { OnOk result (Sends W.contents out.old out.new (listing_with dry_run.entry file.now)) }
+    ensures err { OnErr result (SendsPrefix W.contents out.old out.new (listing_with dry_run.entry file.now)) }
     ensures fault { OnErr result (W.fault_count out.old < W.fault_count out.new) }
     ensures capacity { OnOk result (W.fault_count out.new < 2 ^ 64 - 1) }
     ensures count { W.fault_count out.old ≤ W.fault_count out.new }
@@ -68,11 +64,10 @@ fn write_by<'a, W: Write, S: Sender<W>>(
     dry_run: &mut DryRun<'a>,
     out: &mut W,
 ) -> Result<ListingEnd, WriteFault>
-    requires dry_run { dry_run.old ≡ dry_run_state_of file.now }
     requires capacity { S.faults out.old + S.counted < 2 ^ 64 }
     ensures listed { IfOk result (λ listed. listed ≡ listed_of file.now) }
-    ensures ok { OnOk result (Appends (W.contents out.old) (W.contents out.new) (listing_of file.now)) }
-    ensures err { OnErr result (AppendsPrefix (W.contents out.old) (W.contents out.new) (listing_of file.now)) }
+    ensures ok { OnOk result (Sends W.contents out.old out.new (listing_with dry_run.old file.now)) }
+    ensures err { OnErr result (SendsPrefix W.contents out.old out.new (listing_with dry_run.old file.now)) }
     ensures fault { OnErr result (S.faults out.old + S.counted ≤ S.faults out.new) }
     ensures capacity { OnOk result (S.faults out.new + S.counted < 2 ^ 64) }
     ensures count { S.faults out.old ≤ S.faults out.new }
@@ -87,8 +82,8 @@ fn write_by<'a, W: Write, S: Sender<W>>(
 fn write_none<W: Write, S: Sender<W>>(out: &mut W) -> Result<ListingEnd, WriteFault>
     requires { S.faults out.old + S.counted < 2 ^ 64 }
     ensures listed { IfOk result (λ listed. listed ≡ ListingEnd.Broken) }
-    ensures ok { OnOk result (Appends (W.contents out.old) (W.contents out.new) (no_format_line)) }
-    ensures err { OnErr result (AppendsPrefix (W.contents out.old) (W.contents out.new) (no_format_line)) }
+    ensures ok { OnOk result (Sends W.contents out.old out.new (no_format_line)) }
+    ensures err { OnErr result (SendsPrefix W.contents out.old out.new (no_format_line)) }
     ensures fault { OnErr result (S.faults out.old + S.counted ≤ S.faults out.new) }
     ensures capacity { OnOk result (S.faults out.new + S.counted < 2 ^ 64) }
     ensures count { S.faults out.old ≤ S.faults out.new }
@@ -106,11 +101,10 @@ fn write_in<'a, W: Write, S: Sender<W>>(
     dry_run: &mut DryRun<'a>,
     out: &mut W,
 ) -> Result<ListingEnd, WriteFault>
-    requires start { dry_run.old ≡ dry_run_state_of file.now }
     requires capacity { S.faults out.old + S.counted < 2 ^ 64 }
     ensures listed { IfOk result (λ listed. listed ≡ listed_by (framed_records format file.now)) }
-    ensures ok { OnOk result (Appends (W.contents out.old) (W.contents out.new) (listing_in format file.now)) }
-    ensures err { OnErr result (AppendsPrefix (W.contents out.old) (W.contents out.new) (listing_in format file.now)) }
+    ensures ok { OnOk result (Sends W.contents out.old out.new (listing_in format dry_run.old file.now)) }
+    ensures err { OnErr result (SendsPrefix W.contents out.old out.new (listing_in format dry_run.old file.now)) }
     ensures fault { OnErr result (S.faults out.old + S.counted ≤ S.faults out.new) }
     ensures capacity { OnOk result (S.faults out.new + S.counted < 2 ^ 64) }
     ensures count { S.faults out.old ≤ S.faults out.new }
@@ -130,11 +124,10 @@ fn write_lines<'a, F: Format, W: Write, S: Sender<W>>(
     out: &mut W,
 ) -> Result<ListingEnd, WriteFault>
     requires framing { framing_of format ≡ F.framing }
-    requires start { dry_run.old ≡ dry_run_state_of file.now }
     requires capacity { S.faults out.old + S.counted < 2 ^ 64 }
     ensures listed { IfOk result (λ listed. listed ≡ listed_by (framed_records format file.now)) }
-    ensures ok { OnOk result (Appends (W.contents out.old) (W.contents out.new) (listing_in format file.now)) }
-    ensures err { OnErr result (AppendsPrefix (W.contents out.old) (W.contents out.new) (listing_in format file.now)) }
+    ensures ok { OnOk result (Sends W.contents out.old out.new (listing_in format dry_run.old file.now)) }
+    ensures err { OnErr result (SendsPrefix W.contents out.old out.new (listing_in format dry_run.old file.now)) }
     ensures fault { OnErr result (S.faults out.old + S.counted ≤ S.faults out.new) }
     ensures capacity { OnOk result (S.faults out.new + S.counted < 2 ^ 64) }
     ensures count { S.faults out.old ≤ S.faults out.new }
@@ -159,7 +152,7 @@ fn ensure_capacity<W: Write, S: Sender<W>>(
     requires { S.faults out.old + S.counted < 2 ^ 64 }
     ensures line { OnOk result (length buffer.new + 512 ≤ 8192) }
     ensures sent { OnOk result (Sending (W.contents out.old) (W.contents out.new) buffer.old buffer.new) }
-    ensures err { OnErr result (AppendsPrefix (W.contents out.old) (W.contents out.new) buffer.old) }
+    ensures err { OnErr result (SendsPrefix W.contents out.old out.new buffer.old) }
     ensures fault { OnErr result (S.faults out.old + S.counted ≤ S.faults out.new) }
     ensures capacity { OnOk result (S.faults out.new + S.counted < 2 ^ 64) }
     ensures count { S.faults out.old ≤ S.faults out.new }
@@ -186,7 +179,8 @@ fn put_next<'a, F: Format>(
     match walk.next_record() {
         Ok(Some(given)) => {
             let decoded = step_in(format, given);
-            let run = dry_run.try_step(&decoded);
+            let is_end = given.record.kind == F::end_kind();
+            let run = dry_run.try_step(&decoded, is_end);
             put_line(buffer, format, &given, run, &decoded);
             None
         }

@@ -29,8 +29,8 @@ both f g first second from v to between = second (f from) (f v) (f to) (first fr
 shifted : (c : ℤ) → KeepsBetween (λ v. v -ℤ c)
 shifted c = keeps_order (λ v. v -ℤ c) (λ v w h. omega (arith, ints, h))
 
-moved : (c d : ℤ) → KeepsBetween (λ v. v +ℤ c -ℤ d)
-moved c d = keeps_order (λ v. v +ℤ c -ℤ d) (λ v w h. omega (arith, ints, h))
+moved : (c : ℤ) → KeepsBetween (λ v. v +ℤ c)
+moved c = keeps_order (λ v. v +ℤ c) (λ v w h. omega (arith, ints, h))
 
 -- a product with a number
 times_below : (v w : ℤ) (n : ℕ) → v ≤ℤ w → (w *ℤ negsuc n) ≤ℤ (v *ℤ negsuc n)
@@ -52,7 +52,8 @@ floored (negsuc n) ne = turns_order (λ a. floor_div a (negsuc n)) (λ a b h. qu
 -- a page map
 pub map_keeps_between : (n : AxisNumbers) → n.window_extent ≢ pos 0 → KeepsBetween (plane_coordinate n)
 map_keeps_between n ne from v to between =
-    moved n.viewport_origin n.corner _ _ _ (floored n.window_extent ne _ _ _ (scaled n.viewport_extent _ _ _ (shifted n.window_origin from v to between)))
+    let scaled_there = scaled n.viewport_extent _ _ _ (scaled (pos n.parts) _ _ _ (shifted n.window_origin from v to between)) in
+    moved ((n.viewport_origin -ℤ n.corner) *ℤ pos n.parts) _ _ _ (floored n.window_extent ne _ _ _ scaled_there)
 
 -- a place
 pub place_keeps_between : (side frame_side : ℕ) → IsFrameSide frame_side → KeepsBetween (λ v. placed v side frame_side)

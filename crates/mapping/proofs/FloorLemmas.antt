@@ -3,7 +3,7 @@ use Rattle.std.proofs.Common.{◌≡◌, ◌≢◌, ℕ, zero, suc, ◌+◌, ◌
 use Rattle.std.proofs.Math.Nat.{mul-div_cancel}
 use Rattle.std.proofs.lemmas.Int.{ints}
 use Rattle.std.proofs.lemmas.Nat.{le-div, div_below, div-add-mod', mod_below}
-use Rattle.mapping.specs.Floor.{floor_div, IsNotAbove, FloorDivisionIsGreatest}
+use Rattle.mapping.specs.Floor.{floor_div, IsNotAbove, IsGreatestNotAbove, FloorDivisionIsGreatest}
 
 -- what division of counts says: the quotient's multiple is at most n, and the next one is above it
 quotient_low : (n d : ℕ) → n / suc d * suc d ≤ n
@@ -59,3 +59,11 @@ pub floor_of_multiple : (d v : ℤ) → v ≢ pos 0 → floor_div (d *ℤ v) v �
 floor_of_multiple d (pos zero) ne = absurd (ne refl)
 floor_of_multiple d (pos (suc k)) ne = multiple d k
 floor_of_multiple d (negsuc k) ne = let negated : neg_ℤ (d *ℤ negsuc k) ≡ d *ℤ pos (suc k) = omega (arith, ints) in rw negated (multiple d k)
+
+-- a floor is the only greatest whole number not above the fraction
+pub only : (q a b : ℤ) → b ≢ pos 0 → IsGreatestNotAbove q a b → floor_div a b ≡ q
+only q a b ne is =
+    let floor = floor_is_greatest a b ne in
+    let low = is.greatest (floor_div a b) floor.not_above in
+    let high = floor.greatest q is.not_above in
+    omega (arith, ints, low, high)

@@ -15,3 +15,9 @@ pub mod MetLemmas
 pub mod FitLemmas
 pub mod WideCellLemmas
 pub mod NibLemmas
+pub mod Products
+pub mod PagePointLemmas
+pub mod MapLemmas
+pub mod RestLemmas
+pub mod PartLemmas
+pub mod WorkedParts

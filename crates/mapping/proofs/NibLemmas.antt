@@ -17,14 +17,14 @@ side_grows :
 side_grows width axis shorter longer frame_side h =
     let length = width * unsigned_abs axis.viewport_extent in
     let whole = unsigned_abs axis.window_extent * frame_side in
-    let more = quotient_grows (length * shorter) (length * longer) whole (mul-le-mul_left length h) in omega (arith, more)
+    let more = quotient_grows (length * (axis.parts * shorter)) (length * (axis.parts * longer)) whole (mul-le-mul_left length (mul-le-mul_left axis.parts h)) in omega (arith, more)
 
 nothing_scaled : (viewport surface_side whole : ℕ) → 0 * viewport * surface_side / whole ≡ 0
 nothing_scaled viewport surface_side whole = ap (λ (n : ℕ). n / whole) (omega arith) ∙ zero-div whole
 
 one_without_width : (axis : AxisNumbers) (surface_side frame_side : ℕ) → nib_side 0 axis surface_side frame_side ≡ 1
 one_without_width axis surface_side frame_side =
-    let e = nothing_scaled (unsigned_abs axis.viewport_extent) surface_side (unsigned_abs axis.window_extent * frame_side) in omega (arith, e)
+    let e = nothing_scaled (unsigned_abs axis.viewport_extent) (axis.parts * surface_side) (unsigned_abs axis.window_extent * frame_side) in omega (arith, e)
 
 pub nib_laws : NibLaws
 nib_laws = record {
@@ -51,12 +51,12 @@ some_from_zero (negsuc n) h = omega arith
 
 unscaled :
     (width surface_side frame_side : ℕ) (axis : AxisNumbers) → unsigned_abs axis.viewport_extent ≡ unsigned_abs axis.window_extent
-    → axis.window_extent ≢ pos 0 → width * surface_side / frame_side ≡ scaled_width width axis surface_side frame_side
+    → axis.window_extent ≢ pos 0 → width * (axis.parts * surface_side) / frame_side ≡ scaled_width width axis surface_side frame_side
 unscaled width surface_side frame_side axis e h =
-    rw e (sym (same_extents width (unsigned_abs axis.window_extent) surface_side frame_side (some_from_zero axis.window_extent h)))
+    rw e (sym (same_extents width (unsigned_abs axis.window_extent) (axis.parts * surface_side) frame_side (some_from_zero axis.window_extent h)))
 
 pub unscaled_side :
-    (part width surface_side frame_side : ℕ) (axis : AxisNumbers) → part ≡ width * surface_side
+    (part width surface_side frame_side : ℕ) (axis : AxisNumbers) → part ≡ width * (axis.parts * surface_side)
     → unsigned_abs axis.viewport_extent ≡ unsigned_abs axis.window_extent → axis.window_extent ≢ pos 0
     → max 1 (part / frame_side) ≡ nib_side width axis surface_side frame_side
 unscaled_side part width surface_side frame_side axis is e h =

@@ -6,7 +6,7 @@ use Rattle.mapping.specs.Nibs.{is_nib, nib_of, reach_after, reach_before}
 use Rattle.mapping.specs.PageMap.{unscaled_map}
 use Rattle.mapping.specs.Plane.{MapNumbers}
 use Rattle.mapping.specs.Surface.{Surface}
-use Rattle.mapping.specs.declared.map_mode.MapMode.TheVariants.{Anisotropic, Text}
+use Rattle.mapping.specs.declared.map_mode.MapMode.TheVariants.{Anisotropic}
 use Rattle.mapping.specs.declared.nib.Nib.{Nib}
 
 -- a surface for a frame of 8 by 8

@@ -11,10 +11,10 @@ use Rattle.mapping.specs.Surface.{placed}
 
 -- three units of the page are ten of the plane, and turned from an origin at 3
 abbrev upright : AxisNumbers
-upright = record { window_origin = pos 0; window_extent = pos 3; viewport_origin = pos 0; viewport_extent = pos 10; corner = pos 0 }
+upright = record { parts = 1; window_origin = pos 0; window_extent = pos 3; viewport_origin = pos 0; viewport_extent = pos 10; corner = pos 0 }
 
 abbrev negated : AxisNumbers
-negated = record { window_origin = pos 3; window_extent = negsuc 2; viewport_origin = pos 0; viewport_extent = pos 10; corner = pos 0 }
+negated = record { parts = 1; window_origin = pos 3; window_extent = negsuc 2; viewport_origin = pos 0; viewport_extent = pos 10; corner = pos 0 }
 
 upright_at_2 : plane_coordinate upright (pos 2) ≡ pos 6
 upright_at_2 = refl

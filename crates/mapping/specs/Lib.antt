@@ -7,7 +7,9 @@ pub mod Surface
 pub mod PlacingLaws
 pub mod Nibs
 pub mod LimitTests
+pub mod OneToOne
 pub mod PageMap
+pub mod Parts
 pub mod Image
 pub mod Colours
 pub mod PlaceOf

@@ -9,6 +9,7 @@ use Rattle.mapping.specs.declared.map_mode.MapMode.TheVariants.{Text, Isotropic,
 -- an axis with another window and the same corner
 abbrev pub with_window : ℤ → ℤ → AxisNumbers → AxisNumbers
 with_window origin extent n = record {
+  parts = n.parts;
   window_origin = origin;
   window_extent = extent;
   viewport_origin = n.viewport_origin;
@@ -19,6 +20,7 @@ with_window origin extent n = record {
 -- an axis with another viewport and the same corner
 abbrev pub with_viewport : ℤ → ℤ → AxisNumbers → AxisNumbers
 with_viewport origin extent n = record {
+  parts = n.parts;
   window_origin = n.window_origin;
   window_extent = n.window_extent;
   viewport_origin = origin;

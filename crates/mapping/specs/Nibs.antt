@@ -2,7 +2,6 @@
 use Rattle.std.specs.Prelude.{◌≡◌, ℕ, ◌-◌, ◌*◌, ◌/◌, ◌≤◌, unsigned_abs, max, Bool, true, ◌&&◌, nat_le}
 use Rattle.std.proofs.lemmas.Bool.{and_from, and_parts, le-leb, leb-true}
 use Rattle.mapping.specs.Plane.{AxisNumbers, MapNumbers}
-use Rattle.mapping.specs.Limits.{IsFrameSide}
 use Rattle.mapping.specs.PlacingLaws.{IsNoLarger, ShowsFrame}
 use Rattle.mapping.specs.Surface.{Surface}
 use Rattle.mapping.specs.declared.nib.Nib.{Nib}
@@ -50,10 +49,10 @@ reach_before n = (n - 1) / 2
 abbrev pub reach_after : ℕ → ℕ
 reach_after n = n - 1 - reach_before n
 
--- a width in page units, scaled to a surface and rounded down
+-- a width in page units, scaled to a surface and rounded down. The frame's side is counted in parts
 abbrev pub scaled_width : ℕ → AxisNumbers → ℕ → ℕ → ℕ
 scaled_width width axis surface_side frame_side =
-    width * unsigned_abs axis.viewport_extent * surface_side / (unsigned_abs axis.window_extent * frame_side)
+    width * unsigned_abs axis.viewport_extent * (axis.parts * surface_side) / (unsigned_abs axis.window_extent * frame_side)
 
 -- how many columns, or rows, of the surface a pen of this width covers: at least one
 abbrev pub nib_side : ℕ → AxisNumbers → ℕ → ℕ → ℕ

@@ -1,13 +1,14 @@
 -- Where a page coordinate lands on the plane.
-use Rattle.std.specs.Prelude.{◌≡◌, ℤ, ◌+ℤ◌, ◌-ℤ◌, ◌*ℤ◌, Bool, true, ◌&&◌}
+use Rattle.std.specs.Prelude.{◌≡◌, ℕ, ℤ, pos, ◌+ℤ◌, ◌-ℤ◌, ◌*ℤ◌, Bool, true, ◌&&◌}
 use Rattle.std.proofs.lemmas.Bool.{and_from, and_parts}
 use Rattle.mapping.specs.Floor.{floor_div}
 use Rattle.mapping.specs.Limits.{plane_limit, IsWithin, is_within, within_from, within_true}
 use Rattle.mapping.specs.declared.geometry.Point.{Point}
 use Rattle.mapping.specs.declared.map_mode.MapMode.{MapMode}
 
--- the numbers of a page map on one axis
+-- the numbers of a page map on one axis; a unit of the frame has `parts` parts of the plane
 pub record AxisNumbers : Type 0 where
+  pub parts : ℕ
   pub window_origin : ℤ
   pub window_extent : ℤ
   pub viewport_origin : ℤ
@@ -20,11 +21,13 @@ pub record MapNumbers : Type 0 where
   pub x : AxisNumbers
   pub y : AxisNumbers
 
--- The plane coordinate of a page coordinate: its distance from the window's origin is scaled from the window's extent
--- to the viewport's and rounded down, and the viewport's origin is added. The frame's corner is the origin of the
--- plane.
+-- The plane coordinate of a page coordinate. Its distance from the window's origin is scaled from the window's extent to
+-- the viewport's, counted in parts and rounded down. The viewport's origin, relative to the frame's corner, is added in
+-- parts.
 abbrev pub plane_coordinate : AxisNumbers → ℤ → ℤ
-plane_coordinate n v = floor_div ((v -ℤ n.window_origin) *ℤ n.viewport_extent) n.window_extent +ℤ n.viewport_origin -ℤ n.corner
+plane_coordinate n v =
+    floor_div ((v -ℤ n.window_origin) *ℤ pos n.parts *ℤ n.viewport_extent) n.window_extent
+    +ℤ (n.viewport_origin -ℤ n.corner) *ℤ pos n.parts
 
 -- the plane point of a page point, computed separately on each axis
 abbrev pub plane_point : MapNumbers → ℤ → ℤ → Point

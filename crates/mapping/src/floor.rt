@@ -8,7 +8,8 @@ pub(crate) fn floor_quotient(dividend: i64, divisor: i64) -> i64
     requires not_zero { divisor ≢ pos 0 }
     requires dividend_fits { unsigned_abs dividend < 2 ^ 63 }
     requires divisor_fits { unsigned_abs divisor < 2 ^ 63 }
-    ensures { result ≡ floor_div dividend divisor }
+    ensures value { result ≡ floor_div dividend divisor }
+    ensures bound { unsigned_abs result ≤ unsigned_abs dividend }
 {
     if divisor > 0 {
         dividend.div_euclid(divisor)
@@ -20,8 +21,8 @@ pub(crate) fn floor_quotient(dividend: i64, divisor: i64) -> i64
 /// The same for numbers of more than 64 bits, which are far from the limits of their type.
 pub(crate) fn wide_floor_quotient(dividend: i128, divisor: i128) -> i128
     requires not_zero { divisor ≢ pos 0 }
-    requires dividend_fits { unsigned_abs dividend < 2 ^ 100 }
-    requires divisor_fits { unsigned_abs divisor < 2 ^ 100 }
+    requires dividend_fits { unsigned_abs dividend < 2 ^ 110 }
+    requires divisor_fits { unsigned_abs divisor < 2 ^ 110 }
     ensures value { result ≡ floor_div dividend divisor }
     ensures bound { unsigned_abs result ≤ unsigned_abs dividend }
 {

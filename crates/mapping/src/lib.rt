@@ -9,6 +9,9 @@
 //! - A point leaves the plane, or doesn't fit a surface, exactly if a limit says so (`PageMap::plane`, `Place::fits`).
 //! - The initial maps of a placeable WMF, a plain WMF and an EMF file are those that their headers define
 //!   (`PageMap::placeable`, `plain`, `unscaled`).
+//! - A unit of the frame may have several parts of the plane: as many as the longer side of the frame allows (`Frame::parts`,
+//!   `fine`, by `fine_parts`). Then a plane coordinate is the floor of the fraction in parts (`PageMap::in_parts`). With
+//!   one part, coordinates and nibs are those without parts (`part_law`).
 //! - A record that sets the mode, an origin or an extent, or moves an origin, changes the map by its rule, and leaves
 //!   it unchanged if the record is rejected (`PageMap::set_mode`, `set_window_origin`, `set_viewport_origin`,
 //!   `set_window_extent`, `set_viewport_extent`, `offset_window_origin`, `offset_viewport_origin`).
@@ -38,6 +41,7 @@
 
 mod cell_count;
 mod divisor;
+mod fine_axis;
 mod floor;
 mod geometry;
 mod limits;
@@ -46,7 +50,9 @@ mod map_mode;
 mod map_settings;
 mod mix;
 mod nib;
+mod page_axis;
 mod page_map;
+mod parts;
 mod place;
 
 pub use cell_count::{cell_law, cells, wide_cell_law, wide_cells};
@@ -57,5 +63,7 @@ pub use map_error::{OffPlane, ZeroExtent};
 pub use map_mode::MapMode;
 pub use mix::Mix;
 pub use nib::{MAX_NIB_SIDE, Nib, nib_law, reach_after, reach_before};
-pub use page_map::{PageAxis, PageMap};
+pub use page_axis::PageAxis;
+pub use page_map::PageMap;
+pub use parts::part_law;
 pub use place::{Place, box_law, placing_law};

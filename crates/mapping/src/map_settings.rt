@@ -1,13 +1,14 @@
 //! How records change a page map: its mode, and the origins and extents of its window and its viewport.
 
-ghost use Rattle.std.specs.Prelude.{◌≡◌, ◌≢◌, ◌+ℤ◌, ◌||◌, pos, IfSome, OnErr, OnOk, is_err, is_ok, is_some};
+ghost use Rattle.std.specs.Prelude.{◌≡◌, ℕ, ◌≢◌, ◌+ℤ◌, ◌||◌, pos, IfSome, OnErr, OnOk, is_err, is_ok, is_some};
 ghost use Rattle.std.specs.Ordering.{int_eq};
 ghost use Rattle.mapping.specs.MapSettings.{is_page_coordinate, may_set_extents};
 
 use crate::geometry::Point;
 use crate::map_error::{OffPlane, ZeroExtent};
 use crate::map_mode::MapMode;
-use crate::page_map::{PageAxis, PageMap};
+use crate::page_axis::PageAxis;
+use crate::page_map::PageMap;
 
 impl PageMap {
     ghost use Rattle.mapping.specs.PageMap.{map_numbers};
@@ -20,22 +21,23 @@ impl PageMap {
     pub fn set_mode(&mut self, mode: MapMode)
         ensures { map_numbers self.new ≡ with_mode mode (map_numbers self.old) }
     {
-        match mode {
-            MapMode::Text => {
-                self.x = self.x.with_unit_extents();
-                self.y = self.y.with_unit_extents();
-            }
-            MapMode::Isotropic | MapMode::Anisotropic => {}
-        }
-        self.mode = mode;
+        let (x, y) = match mode {
+            MapMode::Text => (self.x.with_unit_extents(), self.y.with_unit_extents()),
+            MapMode::Isotropic | MapMode::Anisotropic => (self.x, self.y),
+        };
+        *self = PageMap::new(mode, self.parts, x, y);
     }
 
     /// Sets the window's origin ([MS-WMF] 2.3.5.31): the page point that lands on the viewport's origin.
     pub fn set_window_origin(&mut self, origin: Point)
         ensures { map_numbers self.new ≡ with_window_origin origin (map_numbers self.old) }
     {
-        self.x = self.x.with_window(origin.x, self.x.window_extent);
-        self.y = self.y.with_window(origin.y, self.y.window_extent);
+        *self = PageMap::new(
+            self.mode,
+            self.parts,
+            self.x.with_window(origin.x, self.x.window_extent),
+            self.y.with_window(origin.y, self.y.window_extent),
+        );
     }
 
     /// Sets the viewport's origin ([MS-WMF] 2.3.5.29): where the window's origin lands, before the frame's corner is
@@ -43,8 +45,12 @@ impl PageMap {
     pub fn set_viewport_origin(&mut self, origin: Point)
         ensures { map_numbers self.new ≡ with_viewport_origin origin (map_numbers self.old) }
     {
-        self.x = self.x.with_viewport(origin.x, self.x.viewport_extent);
-        self.y = self.y.with_viewport(origin.y, self.y.viewport_extent);
+        *self = PageMap::new(
+            self.mode,
+            self.parts,
+            self.x.with_viewport(origin.x, self.x.viewport_extent),
+            self.y.with_viewport(origin.y, self.y.viewport_extent),
+        );
     }
 
     /// Sets the window's extent ([MS-WMF] 2.3.5.30) if the mode allows it. Fails if the extent is 0 on an axis.
@@ -59,8 +65,12 @@ impl PageMap {
         if has_zero(extent) {
             return Err(ZeroExtent);
         }
-        self.x = self.x.with_window(self.x.window_origin, extent.x);
-        self.y = self.y.with_window(self.y.window_origin, extent.y);
+        *self = PageMap::new(
+            self.mode,
+            self.parts,
+            self.x.with_window(self.x.window_origin, extent.x),
+            self.y.with_window(self.y.window_origin, extent.y),
+        );
         Ok(())
     }
 
@@ -76,8 +86,12 @@ impl PageMap {
         if has_zero(extent) {
             return Err(ZeroExtent);
         }
-        self.x = self.x.with_viewport(self.x.viewport_origin, extent.x);
-        self.y = self.y.with_viewport(self.y.viewport_origin, extent.y);
+        *self = PageMap::new(
+            self.mode,
+            self.parts,
+            self.x.with_viewport(self.x.viewport_origin, extent.x),
+            self.y.with_viewport(self.y.viewport_origin, extent.y),
+        );
         Ok(())
     }
 
@@ -121,7 +135,7 @@ impl PageAxis {
     /// The axis with another window.
     fn with_window(self, origin: i32, extent: i32) -> PageAxis
         requires { extent ≢ pos 0 }
-        ensures { axis_numbers result ≡ with_window origin extent (axis_numbers self) }
+        ensures { (parts : ℕ) → axis_numbers parts result ≡ with_window origin extent (axis_numbers parts self) }
     {
         PageAxis {
             window_origin: origin,
@@ -134,7 +148,7 @@ impl PageAxis {
 
     /// The axis with another viewport.
     fn with_viewport(self, origin: i32, extent: i32) -> PageAxis
-        ensures { axis_numbers result ≡ with_viewport origin extent (axis_numbers self) }
+        ensures { (parts : ℕ) → axis_numbers parts result ≡ with_viewport origin extent (axis_numbers parts self) }
     {
         PageAxis {
             window_origin: self.window_origin,
@@ -147,7 +161,7 @@ impl PageAxis {
 
     /// The axis with both extents 1.
     fn with_unit_extents(self) -> PageAxis
-        ensures { axis_numbers result ≡ with_unit_extents (axis_numbers self) }
+        ensures { (parts : ℕ) → axis_numbers parts result ≡ with_unit_extents (axis_numbers parts self) }
     {
         PageAxis {
             window_origin: self.window_origin,

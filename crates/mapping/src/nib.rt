@@ -2,12 +2,14 @@
 
 ghost use Rattle.std.specs.Prelude.{◌≡◌, ◌≤◌, ◌≤ℤ◌, ◌*◌, ◌/◌, pos, max, unsigned_abs, is_some, SomeIff, IsTrue, ◌↔◌};
 ghost use Rattle.mapping.specs.Nibs.{IsNib, IsNibSide, NibLaws, is_nib, is_nib_side, nib_of, nib_side, reach_after, reach_before};
-ghost use Rattle.mapping.specs.PageMap.{axis_numbers, map_numbers};
+ghost use Rattle.mapping.specs.Limits.{surface_side_limit};
+ghost use Rattle.mapping.specs.PageMap.{fine_numbers, map_numbers};
 ghost use Rattle.mapping.specs.PlaceOf.{surface_of};
 
 use crate::divisor::Divisor;
+use crate::fine_axis::FineAxis;
 use crate::limits::limits_law;
-use crate::page_map::{PageAxis, PageMap};
+use crate::page_map::PageMap;
 use crate::place::Place;
 
 /// The greatest width or height of a nib, in pixels.
@@ -43,47 +45,57 @@ impl Place {
         ensures nib { let nib = nib_of width (map_numbers map.now) (surface_of self.now) in SomeIff result (IsNib nib) nib }
         ensures test { is_some result ≡ is_nib (nib_of width (map_numbers map.now) (surface_of self.now)) }
     {
-        let Some(x) = map.x.nib_side(width, self.width, self.by_width) else {
+        let Some(x) = map.fine_x().nib_side(width, self.width, self.by_width) else {
             return None;
         };
-        let Some(y) = map.y.nib_side(width, self.height, self.by_height) else {
+        let Some(y) = map.fine_y().nib_side(width, self.height, self.by_height) else {
             return None;
         };
         Some(Nib { x, y })
     }
 }
 
-impl PageAxis {
+impl FineAxis {
     /// The width or height in pixels of the nib of a pen of this width. `None` if it exceeds 4,096. If the extents on
     /// the axis have the same length, the map doesn't scale, and the only divisor is that of the frame.
     fn nib_side(&self, width: u32, surface_side: u32, frame_side: Divisor) -> Option<u16>
-        ensures side { let side = nib_side width (axis_numbers self.now) surface_side frame_side.number in SomeIff result (IsNibSide side) side }
-        ensures test { is_some result ≡ is_nib_side (nib_side width (axis_numbers self.now) surface_side frame_side.number) }
+        requires { surface_side ≤ surface_side_limit }
+        ensures side { let side = nib_side width (fine_numbers self.now) surface_side frame_side.number in SomeIff result (IsNibSide side) side }
+        ensures test { is_some result ≡ is_nib_side (nib_side width (fine_numbers self.now) surface_side frame_side.number) }
     {
         let (viewport, window) = (self.viewport_length(), self.window_length());
+        let fine_side = self.side_in_parts(surface_side);
         if viewport == window {
-            return unscaled_side(times(width, surface_side), frame_side);
+            return unscaled_side(times(width, fine_side), frame_side);
         }
         allowed_side(scaled(
             times(width, viewport),
-            surface_side,
+            fine_side,
             times(window, frame_side.number),
         ))
     }
 
+    /// A surface's width or height, times the parts of a unit.
+    fn side_in_parts(&self, surface_side: u32) -> u32
+        requires { surface_side ≤ surface_side_limit }
+        ensures { result ≡ self.now.parts * surface_side }
+    {
+        u32::from(self.parts) * surface_side
+    }
+
     /// The length of the viewport's extent, in either direction.
     fn viewport_length(&self) -> u32
-        ensures { result ≡ unsigned_abs self.now.viewport_extent }
+        ensures { result ≡ unsigned_abs self.now.axis.viewport_extent }
     {
-        self.viewport_extent.unsigned_abs()
+        self.axis.viewport_extent.unsigned_abs()
     }
 
     /// The length of the window's extent, in either direction.
     fn window_length(&self) -> u32
-        ensures length { result ≡ unsigned_abs self.now.window_extent }
+        ensures length { result ≡ unsigned_abs self.now.axis.window_extent }
         ensures some { 1 ≤ result }
     {
-        self.window_extent.unsigned_abs()
+        self.axis.window_extent.unsigned_abs()
     }
 }
 
@@ -94,14 +106,14 @@ fn times(one: u32, other: u32) -> u64
     u64::from(one) * u64::from(other)
 }
 
-/// A length times the surface's width or height, divided. Done in 64 bits if the product fits.
-fn scaled(length: u64, surface_side: u32, whole: u64) -> u128
+/// A length times a surface's width or height in parts, divided. Done in 64 bits if the product fits.
+fn scaled(length: u64, fine_side: u32, whole: u64) -> u128
     requires { 1 ≤ whole }
-    ensures { result ≡ length * surface_side / whole }
+    ensures { result ≡ length * fine_side / whole }
 {
-    match length.checked_mul(u64::from(surface_side)) {
+    match length.checked_mul(u64::from(fine_side)) {
         Some(part) => u128::from(part / whole),
-        None => u128::from(length) * u128::from(surface_side) / u128::from(whole),
+        None => u128::from(length) * u128::from(fine_side) / u128::from(whole),
     }
 }
 

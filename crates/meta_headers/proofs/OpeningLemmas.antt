@@ -1,19 +1,28 @@
 -- A file that opens has a frame and a handle count within their limits.
-use Rattle.std.proofs.Common.{◌≡◌, ℕ, zero, suc, ℤ, pos, negsuc, ◌-◌, ◌-ℤ◌, ◌≤◌, Bool, true, false, ◌&&◌, ◌||◌, ◌==◌, not, cond, List, [], ◌∷◌, drop, length, Option, Some, None, Result, Ok, Err, refl, subst, arith}
-use Rattle.std.specs.Prelude.{◌^◌, ◌<◌, IfSome, nat_lt, slice_index, unsigned_abs}
+use Rattle.std.proofs.Common.{◌≡◌, ℕ, zero, suc, ℤ, pos, negsuc, ◌-◌, ◌-ℤ◌, ◌≤◌, Bool, true, false, ◌&&◌, ◌||◌, ◌==◌, not, cond, List, [], ◌∷◌, drop, length, Option, Some, None, Result, Ok, Err, ap, refl, subst, sym, ◌∙◌, arith}
+use Rattle.std.specs.Prelude.{◌*◌, ◌^◌, ◌<◌, IfSome, if◌then◌else◌, max, nat_lt, slice_index, unsigned_abs}
 use Rattle.std.specs.List.{All}
 use Rattle.std.proofs.lemmas.List.Elements.{All-head, All-tail}
 use Rattle.std.specs.Option.{option_or}
 use Rattle.std.proofs.lemmas.Bool.{and_parts, ltb-false, ltb-true}
 use Rattle.std.proofs.lemmas.Int.{ints}
 use Rattle.mapping.specs.Limits.{IsFrameSide, frame_side_true, is_frame_side}
+use Rattle.mapping.specs.PageMap.{map_in_parts}
+use Rattle.mapping.specs.Parts.{PartLaws, first_fine, part_counts}
+use Rattle.mapping.specs.PlacingLaws.{ShowsFrame}
+use Rattle.mapping.specs.Plane.{MapNumbers}
+use Rattle.mapping.specs.declared.geometry.Frame.{Frame}
 use Rattle.draw_ops.specs.Framed.{framed_of}
+use Rattle.draw_ops.specs.Results.{result_map}
+use Rattle.draw_ops.specs.RuleSets.{core_rules, has_fine_plane, in_force}
 use Rattle.draw_ops.specs.Records.{Record}
 use Rattle.draw_ops.specs.declared.fault.Fault.{Fault}
+use Rattle.draw_ops.specs.declared.rules.Rules.{Rules}
+use Rattle.meta_headers.specs.OpeningRules.{divided, parts_of_unit, reopened}
 use Rattle.meta_headers.specs.EmfHeader.{bounds_height, bounds_width, emf_file, is_emf, is_emf_header_size, opened_emf}
 use Rattle.meta_headers.specs.OpeningLaws.{OpeningLaws}
 use Rattle.meta_headers.specs.Headers.{OpenedValue, has_version, is_header, is_too_long}
-use Rattle.meta_headers.specs.Opening.{opened}
+use Rattle.meta_headers.specs.Opening.{opened, surface_for}
 use Rattle.meta_headers.specs.PlaceableHeader.{box_dimensions, boxed_file, is_placeable, opened_placeable, placeable_file}
 use Rattle.meta_headers.specs.PlainHeader.{is_plain, opened_plain, plain_file, plain_with}
 use Rattle.point_views.specs.Numbers.{i16_at, number_at}
@@ -65,10 +74,14 @@ module _ (holds : OpenedValue → Type 0) where
       (λ e. by_test (not (is_frame_side (bounds_width file) && is_frame_side (bounds_height file))) _ _ (λ e. no_fault _)
       (λ e. is_it (opened_emf file) (f (is_true _ e))))))
 
--- sides of an opened file's frame
+-- the sides of an opened file's frame; a unit is one part of the plane
 record HasDimensions (o : OpenedValue) : Type 0 where
   wide : IsFrameSide o.frame_width
   high : IsFrameSide o.frame_height
+  core : o.rules ≡ core_rules
+  fine_width : o.fine_width ≡ o.frame_width
+  fine_height : o.fine_height ≡ o.frame_height
+  units : map_in_parts 1 o.map ≡ o.map
 
 -- a number of 16 bits
 small : (n : ℕ) (test : Bool) → nat_lt n 32768 ≡ test → unsigned_abs (cond test (pos n) (negsuc (65536 - suc n))) ≤ 32768
@@ -107,6 +120,10 @@ boxed file =
     is_it HasDimensions (opened_placeable file) (record {
       wide = side_between (i16_at file 10) (i16_at file 6) (small_at file 10) (small_at file 6) (not_zero _ some.0);
       high = side_between (i16_at file 12) (i16_at file 8) (small_at file 12) (small_at file 8) (not_zero _ some.1);
+      core = refl;
+      fine_width = refl;
+      fine_height = refl;
+      units = refl;
     }))
 
 -- an extent that a record has
@@ -137,12 +154,15 @@ first_in (r ∷ rs) extent h = first_or (extent_in r) (first_extent_in rs) (exte
 
 with_extent : (file : List ℕ) (found : Option (ℤ × ℤ)) → ((extent : ℤ × ℤ) → found ≡ Some extent → IsExtent extent) → HoldsIfOk HasDimensions (plain_with file found)
 with_extent file None f = no_fault HasDimensions _
-with_extent file (Some extent) f = is_it HasDimensions (opened_plain file extent) (let it = f extent refl in record { wide = it.wide; high = it.high })
+with_extent file (Some extent) f = is_it HasDimensions (opened_plain file extent) (
+    let it = f extent refl in
+    record { wide = it.wide; high = it.high; core = refl; fine_width = refl; fine_height = refl; units = refl }
+    )
 
 frame : (file : List ℕ) → HoldsIfOk HasDimensions (opened file)
 frame file =
     by_format HasDimensions file (by_placeable HasDimensions file (boxed file))
-    (by_emf HasDimensions file (λ e. let both = and_parts _ _ e in record { wide = frame_side_true _ both.0; high = frame_side_true _ both.1 }))
+    (by_emf HasDimensions file (λ e. let both = and_parts _ _ e in record { wide = frame_side_true _ both.0; high = frame_side_true _ both.1; core = refl; fine_width = refl; fine_height = refl; units = refl }))
     (by_plain HasDimensions file (with_extent file (first_extent (drop 18 file)) (first_in (framed_of wmf_framing (drop 18 file)).records)))
 
 -- how many object indexes an opened file may use, where the format says so
@@ -180,8 +200,87 @@ handles file all =
     (by_emf HasShortHandles file (λ e. short_handles file all))
     (by_plain HasShortHandles file (no_handles file (first_extent (drop 18 file))))
 
-pub opening_laws : OpeningLaws
-opening_laws = record {
-  frame = λ file o width height opens. let dimensions = frame file o opens in record { wide = dimensions.wide; high = dimensions.high };
-  handles = λ file o all opens. handles file all o opens;
+-- what is opened by rules is what is opened, in parts
+by_them : (rules : Rules) (result : Result OpenedValue Fault) (holds : OpenedValue → Type 0) → HoldsIfOk HasDimensions result
+    → ((it : OpenedValue) → HasDimensions it → holds (reopened rules it)) → HoldsIfOk holds (result_map (reopened rules) result)
+by_them rules (Ok it) holds is f = is_it holds (reopened rules it) (f it (is it refl))
+by_them rules (Err fault) holds is f = no_fault holds fault
+
+module _ (laws : PartLaws) where
+  abbrev framed : (width height : ℕ) → IsFrameSide width → IsFrameSide height → Frame
+  framed width height wide high = record { width = width; height = height; wide = wide; high = high }
+
+  -- a side times its parts
+  fine_side : (fine : Bool) (side most : ℕ) → IsFrameSide side → IsFrameSide (side * first_fine most part_counts) → IsFrameSide (side * (if fine then first_fine most part_counts else 1))
+  fine_side true side most plain many = many
+  fine_side false side most plain many = record { not_empty = let some = plain.not_empty in omega (arith, some); within = let few = plain.within in omega (arith, few) }
+
+  shows : (rules : Rules) (width height : ℕ) (it : OpenedValue) → HasDimensions it → ShowsFrame (surface_for (reopened rules it) width height)
+  shows rules width height it is =
+      let frame = framed it.frame_width it.frame_height is.wide is.high in
+      record {
+        wide = fine_side (has_fine_plane rules) it.frame_width (max it.frame_width it.frame_height) is.wide (laws.wide frame);
+        high = fine_side (has_fine_plane rules) it.frame_height (max it.frame_width it.frame_height) is.high (laws.high frame);
+      }
+
+-- by the core profile, a file opens as it does without rules
+abbrev sides_of : OpenedValue → ℕ → ℕ → MapNumbers → Rules → OpenedValue
+sides_of o width height map rules = record {
+  format = o.format;
+  rules = rules;
+  frame_width = o.frame_width;
+  frame_height = o.frame_height;
+  fine_width = width;
+  fine_height = height;
+  map = map;
+  handles = o.handles;
+  notes = o.notes;
+}
+
+same_core : (rules : Rules) → has_fine_plane rules ≡ false → (o : OpenedValue) → HasDimensions o → reopened rules o ≡ o
+same_core rules plain o is =
+    let wide : o.frame_width * 1 ≡ o.fine_width = let e = is.fine_width in omega (arith, e) in
+    let high : o.frame_height * 1 ≡ o.fine_height = let e = is.fine_height in omega (arith, e) in
+    let parts : parts_of_unit rules o.frame_width o.frame_height ≡ 1 = rw plain refl in
+    let force : in_force rules ≡ core_rules = rw plain refl in
+    ap (λ (n : ℕ). divided (in_force rules) n o) parts
+    ∙ ap (λ (r : Rules). divided r 1 o) force
+    ∙ ap (λ (w : ℕ). sides_of o w (o.frame_height * 1) (map_in_parts 1 o.map) core_rules) wide
+    ∙ ap (λ (h : ℕ). sides_of o o.fine_width h (map_in_parts 1 o.map) core_rules) high
+    ∙ ap (λ (m : MapNumbers). sides_of o o.fine_width o.fine_height m core_rules) is.units
+    ∙ ap (λ (r : Rules). sides_of o o.fine_width o.fine_height o.map r) (sym is.core)
+
+core_result : (rules : Rules) → has_fine_plane rules ≡ false → (result : Result OpenedValue Fault) → HoldsIfOk HasDimensions result → result_map (reopened rules) result ≡ result
+core_result rules plain (Ok o) is = ap (λ (it : OpenedValue). Ok it) (same_core rules plain o (is o refl))
+core_result rules plain (Err fault) is = refl
+
+-- the rules in force are in force, and a unit has as many parts under them
+reopened_again : (rules : Rules) (fine : Bool) → has_fine_plane rules ≡ fine → (o : OpenedValue) → reopened (in_force rules) o ≡ reopened rules o
+reopened_again rules true e o = let force : in_force rules ≡ rules = rw e refl in ap (λ (r : Rules). reopened r o) force
+reopened_again rules false e o =
+    let parts : parts_of_unit rules o.frame_width o.frame_height ≡ 1 = rw e refl in
+    let force : in_force rules ≡ core_rules = rw e refl in
+    ap (λ (r : Rules). reopened r o) force ∙ sym (ap (λ (n : ℕ). divided (in_force rules) n o) parts ∙ ap (λ (r : Rules). divided r 1 o) force)
+
+again_result : (rules : Rules) (result : Result OpenedValue Fault) → result_map (reopened (in_force rules)) result ≡ result_map (reopened rules) result
+again_result rules (Ok o) = ap (λ (it : OpenedValue). Ok it) (reopened_again rules (has_fine_plane rules) refl o)
+again_result rules (Err fault) = refl
+
+rules_result : (rules : Rules) (result : Result OpenedValue Fault) → HoldsIfOk (λ o. o.rules ≡ in_force rules) (result_map (reopened rules) result)
+rules_result rules (Ok it) = is_it (λ o. o.rules ≡ in_force rules) (reopened rules it) refl
+rules_result rules (Err fault) = no_fault (λ o. o.rules ≡ in_force rules) fault
+
+-- a file has as many handles under any rules
+handles_by : (rules : Rules) (result : Result OpenedValue Fault) → HoldsIfOk HasShortHandles result → HoldsIfOk HasShortHandles (result_map (reopened rules) result)
+handles_by rules (Ok it) is = is_it HasShortHandles (reopened rules it) (is it refl)
+handles_by rules (Err fault) is = no_fault HasShortHandles fault
+
+pub opening_laws : PartLaws → OpeningLaws
+opening_laws laws = record {
+  handles = λ rules file o all opens. handles_by rules (opened file) (handles file all) o opens;
+  frame = λ rules file o width height opens.
+      by_them rules (opened file) (λ it. ShowsFrame (surface_for it width height)) (frame file) (shows laws rules width height) o opens;
+  core = λ rules file plain. core_result rules plain (opened file) (frame file);
+  again = λ rules file. again_result rules (opened file);
+  in_force = λ rules file o opens. rules_result rules (opened file) o opens;
 }

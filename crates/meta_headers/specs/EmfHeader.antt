@@ -8,6 +8,7 @@ use Rattle.draw_ops.specs.NoteCounts.{no_notes}
 use Rattle.draw_ops.specs.declared.fault.Fault.{Fault}
 use Rattle.draw_ops.specs.declared.fault.Fault.TheVariants.{ShortHeader, BadHeader, NoFrame}
 use Rattle.draw_ops.specs.declared.note.Note.TheVariants.{SizeField}
+use Rattle.draw_ops.specs.RuleSets.{core_rules}
 use Rattle.meta_headers.specs.Headers.{OpenedValue, noted_where}
 use Rattle.meta_headers.specs.declared.opened.FileFormat.TheVariants.{Emf}
 
@@ -41,8 +42,11 @@ has_other_bytes file = not (number_at file 48 4 == length file)
 abbrev pub opened_emf : List ℕ → OpenedValue
 opened_emf file = record {
   format = Emf;
+  rules = core_rules;
   frame_width = bounds_width file;
   frame_height = bounds_height file;
+  fine_width = bounds_width file;
+  fine_height = bounds_height file;
   map = unscaled_map (xy_at file 8);
   handles = Some (number_at file 56 2);
   notes = noted_where (has_other_bytes file) no_notes SizeField;

@@ -4,14 +4,18 @@ use Rattle.mapping.specs.Plane.{MapNumbers}
 use Rattle.point_views.specs.Numbers.{number_at}
 use Rattle.draw_ops.specs.NoteKinds.{noted}
 use Rattle.draw_ops.specs.declared.note.Note.{Note}
+use Rattle.draw_ops.specs.declared.rules.Rules.{Rules}
 use Rattle.meta_headers.specs.declared.opened.FileFormat.{FileFormat}
 
--- an opened file: its frame's size, its initial map, the number of object indexes that it may use, if the format gives
--- one, and the notes of its headers
+-- an opened file: its format, the rules under which it is opened, its frame's size in units and in parts of the plane,
+-- its initial map, the number of object indexes that it may use, if the format gives one, and the notes of its headers
 pub record OpenedValue : Type 0 where
   pub format : FileFormat
+  pub rules : Rules
   pub frame_width : ℕ
   pub frame_height : ℕ
+  pub fine_width : ℕ
+  pub fine_height : ℕ
   pub map : MapNumbers
   pub handles : Option ℕ
   pub notes : List ℕ

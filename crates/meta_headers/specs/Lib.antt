@@ -3,6 +3,7 @@ pub mod PlaceableHeader
 pub mod PlainHeader
 pub mod EmfHeader
 pub mod Opening
+pub mod OpeningRules
 pub mod OpenedOf
 pub mod SourceContent
 pub mod File

@@ -49,6 +49,6 @@ record_bytes Emf file = file
 abbrev pub HasContentOf : FileFormat → List ℕ → Content → Type 0
 HasContentOf format records content = IsContent (framing_of format) (meaning_of format) records content
 
--- the surface of this size that shows an opened file's frame
+-- the surface of this size that shows an opened file's fine frame
 abbrev pub surface_for : OpenedValue → ℕ → ℕ → Surface
-surface_for o width height = record { width = width; height = height; frame_width = o.frame_width; frame_height = o.frame_height }
+surface_for o width height = record { width = width; height = height; frame_width = o.fine_width; frame_height = o.fine_height }

@@ -7,6 +7,7 @@ use Rattle.draw_ops.specs.NoteCounts.{no_notes}
 use Rattle.draw_ops.specs.declared.fault.Fault.{Fault}
 use Rattle.draw_ops.specs.declared.fault.Fault.TheVariants.{ShortHeader, BadHeader, NoFrame}
 use Rattle.draw_ops.specs.declared.note.Note.TheVariants.{PlaceableChecksum, PlaceableFields, SizeField}
+use Rattle.draw_ops.specs.RuleSets.{core_rules}
 use Rattle.meta_headers.specs.Headers.{OpenedValue, is_header, reports_other_size, noted_where}
 use Rattle.meta_headers.specs.declared.opened.FileFormat.TheVariants.{Placeable}
 
@@ -45,8 +46,11 @@ placeable_notes file =
 abbrev pub opened_placeable : List ℕ → OpenedValue
 opened_placeable file = record {
   format = Placeable;
+  rules = core_rules;
   frame_width = unsigned_abs (box_dimensions file).x;
   frame_height = unsigned_abs (box_dimensions file).y;
+  fine_width = unsigned_abs (box_dimensions file).x;
+  fine_height = unsigned_abs (box_dimensions file).y;
   map = placeable_map (box_corner file) (box_dimensions file);
   handles = None;
   notes = placeable_notes file;

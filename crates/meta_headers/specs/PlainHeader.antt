@@ -6,6 +6,7 @@ use Rattle.draw_ops.specs.declared.fault.Fault.{Fault}
 use Rattle.draw_ops.specs.declared.fault.Fault.TheVariants.{ShortHeader, BadHeader, NoFrame}
 use Rattle.draw_ops.specs.declared.note.Note.TheVariants.{SizeField}
 use Rattle.wmf_records.specs.FirstExtent.{first_extent}
+use Rattle.draw_ops.specs.RuleSets.{core_rules}
 use Rattle.meta_headers.specs.Headers.{OpenedValue, begins_header, has_version, reports_other_size, noted_where}
 use Rattle.meta_headers.specs.declared.opened.FileFormat.TheVariants.{Plain}
 
@@ -18,8 +19,11 @@ is_plain file = nat_le 4 (length file) && begins_header file 0
 abbrev pub opened_plain : List ℕ → ℤ × ℤ → OpenedValue
 opened_plain file extent = record {
   format = Plain;
+  rules = core_rules;
   frame_width = unsigned_abs extent.0;
   frame_height = unsigned_abs extent.1;
+  fine_width = unsigned_abs extent.0;
+  fine_height = unsigned_abs extent.1;
   map = plain_map (record { x = extent.0; y = extent.1 });
   handles = None;
   notes = noted_where (reports_other_size file 0) no_notes SizeField;

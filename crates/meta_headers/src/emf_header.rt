@@ -10,7 +10,7 @@ ghost use Rattle.meta_headers.specs.OpenedOf.{opened_of};
 
 use crate::notes_where::noted_where;
 use crate::opened::{FileFormat, Opened};
-use draw_ops::{Fault, Note, NoteSet, xy_at};
+use draw_ops::{Fault, Note, NoteSet, Rules, xy_at};
 use mapping::{Frame, PageMap};
 use point_views::{i32_at, u16_at, u32_at};
 
@@ -53,7 +53,9 @@ pub(crate) fn open_emf(file: &[u8]) -> Result<Opened<'_>, Fault>
     };
     Ok(Opened {
         format: FileFormat::Emf,
+        rules: Rules::CORE,
         frame,
+        fine_frame: frame,
         start_map: PageMap::unscaled(xy_at(file, 8)),
         handles: Some(u16_at(file, 56)),
         notes: noted_where(has_other_bytes(file), NoteSet::none(), Note::SizeField),

@@ -1,12 +1,13 @@
 //! Opened files.
 
-ghost use Rattle.std.specs.Prelude.{◌≤◌, length};
+ghost use Rattle.std.specs.Prelude.{◌≡◌, ◌*◌, ◌≤◌, length};
 ghost use Rattle.draw_ops.specs.Records.{record_limit};
+ghost use Rattle.meta_headers.specs.OpeningRules.{parts_of_unit};
 
 use crate::source::Source;
-use draw_ops::NoteSet;
+use draw_ops::{NoteSet, Rules};
 use emf_records::EmfOps;
-use mapping::{Frame, PageMap};
+use mapping::{Frame, PageMap, part_law};
 use wmf_records::WmfOps;
 
 /// The formats of metafiles.
@@ -24,8 +25,12 @@ pub enum FileFormat {
 #[derive(Clone, Copy, Debug, PartialEq, Eq)]
 pub struct Opened<'a> {
     pub format: FileFormat,
-    /// The part of the plane that a surface shows.
+    /// The rules in force.
+    pub rules: Rules,
+    /// What a surface shows. Its sides count units: pixels of the device, or units of a placeable file's box.
     pub frame: Frame,
+    /// The same frame, with its sides counted in parts of the plane. Under the core profile a unit is one part.
+    pub fine_frame: Frame,
     /// The page map before the first record.
     pub start_map: PageMap,
     /// For EMF, the number of object indexes that the file may use, including the unused index 0.
@@ -37,8 +42,34 @@ pub struct Opened<'a> {
 }
 
 impl<'a> Opened<'a> {
+    ghost use Rattle.meta_headers.specs.OpeningRules.{reopened};
+    ghost use Rattle.meta_headers.specs.OpenedOf.{opened_of};
     ghost use Rattle.meta_headers.specs.Opening.{HasContentOf};
     ghost use Rattle.meta_headers.specs.SourceContent.{source_content};
+
+    /// The same file, opened under other rules.
+    pub fn by(self, rules: Rules) -> Opened<'a>
+        ensures value { opened_of result ≡ reopened rules (opened_of self.entry) }
+        ensures records { result.records.now ≡ self.entry.records.now }
+    {
+        Opened {
+            format: self.format,
+            rules: rules.in_force(),
+            frame: self.frame,
+            fine_frame: frame_by(rules, &self.frame),
+            start_map: self.start_map.in_parts(parts_of_unit(rules, &self.frame)),
+            handles: self.handles,
+            notes: self.notes,
+            records: self.records,
+        }
+    }
+
+    /// How many parts of the plane a unit of the frame has.
+    pub fn parts(&self) -> u16
+        ensures { result ≡ self.now.start_map.parts }
+    {
+        self.start_map.parts
+    }
 
     /// The source of the file's steps, from record 0 on.
     pub fn source(self) -> Source<'a>
@@ -50,5 +81,31 @@ impl<'a> Opened<'a> {
             FileFormat::Plain => Source::Wmf(WmfOps::new(self.records)),
             FileFormat::Emf => Source::Emf(EmfOps::new(self.records)),
         }
+    }
+}
+
+/// How many parts of the plane a unit of the frame has under these rules.
+fn parts_of_unit(rules: Rules, frame: &Frame) -> u16
+    ensures value { result ≡ parts_of_unit rules frame.now.width frame.now.height }
+    ensures some { 1 ≤ result }
+    ensures few { result ≤ 4096 }
+{
+    part_law();
+    if rules.has_fine_plane() {
+        frame.parts()
+    } else {
+        1
+    }
+}
+
+/// The frame, with its sides counted in parts under these rules.
+fn frame_by(rules: Rules, frame: &Frame) -> Frame
+    ensures width { result.width ≡ frame.now.width * parts_of_unit rules frame.now.width frame.now.height }
+    ensures height { result.height ≡ frame.now.height * parts_of_unit rules frame.now.width frame.now.height }
+{
+    if rules.has_fine_plane() {
+        frame.fine()
+    } else {
+        *frame
     }
 }

@@ -11,7 +11,7 @@ ghost use Rattle.meta_headers.specs.PlaceableHeader.{boxed_file, has_other_check
 use crate::notes_where::noted_where;
 use crate::opened::{FileFormat, Opened};
 use crate::standard_header::{has_other_size, is_header};
-use draw_ops::{Fault, Note, NoteSet};
+use draw_ops::{Fault, Note, NoteSet, Rules};
 use mapping::{Frame, PageMap, Point};
 use point_views::{i16_at, u16_at, u32_at};
 
@@ -71,7 +71,9 @@ fn open_boxed(file: &[u8]) -> Result<Opened<'_>, Fault>
     let (_, records) = file.split_at(HEADERS);
     Ok(Opened {
         format: FileFormat::Placeable,
+        rules: Rules::CORE,
         frame,
+        fine_frame: frame,
         start_map: PageMap::placeable(corner, dimensions),
         handles: None,
         notes: notes(file),

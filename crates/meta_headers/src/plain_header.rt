@@ -9,7 +9,7 @@ ghost use Rattle.meta_headers.specs.PlainHeader.{is_plain, plain_file};
 use crate::notes_where::noted_where;
 use crate::opened::{FileFormat, Opened};
 use crate::standard_header::{HEADER_LENGTH, begins_header, has_other_size, has_version};
-use draw_ops::{Fault, Note, NoteSet};
+use draw_ops::{Fault, Note, NoteSet, Rules};
 use mapping::{Frame, PageMap, Point};
 use wmf_records::first_extent;
 
@@ -47,7 +47,9 @@ pub(crate) fn open_plain(file: &[u8]) -> Result<Opened<'_>, Fault>
     };
     Ok(Opened {
         format: FileFormat::Plain,
+        rules: Rules::CORE,
         frame,
+        fine_frame: frame,
         start_map: PageMap::plain(dimensions),
         handles: None,
         notes: noted_where(has_other_size(file, 0), NoteSet::none(), Note::SizeField),

@@ -2,4 +2,4 @@
 
 /// The line that `--version` writes: the version, and the checksum of all sources but this one.
 pub(crate) const VERSION: &str =
-    "metaplay 1.0.0 (sources 5250fda881c8cc433fc1d94519f4981ea5a213f55907a42a7efc2e87b89435f7)\n";
+    "metaplay 1.1.0 (sources 74db3d73018e89b1ff7ec9afade9a2e17c8bbfb2d7638f779a993524e0c59652)\n";

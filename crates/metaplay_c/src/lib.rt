@@ -4,7 +4,7 @@
 //!
 //! - Each function calls one of `buffer_calls`, and its contract is that of the call: the answer has the numbers of an
 //!   outcome that the call may have (`metaplay_check`, `metaplay_prepare`, `metaplay_play`, by `Reports`;
-//!   `metaplay_fault_name`, by `ReportsName`).
+//!   `metaplay_prepare_print`, by `ReportsPrepared`; `metaplay_fault_name`, by `ReportsName`).
 //! - The sides that fit a file's frame are written only if there are such sides (`metaplay_fitted_sides`, by
 //!   `ReportsSides`).
 //! - What a certificate says of every play is written only if its bytes are a certificate
@@ -18,5 +18,5 @@ mod calls;
 pub use answers::{Answer, CertificateTerms, SurfaceSides};
 pub use calls::{
     metaplay_certificate_terms, metaplay_check, metaplay_fault_name, metaplay_fitted_sides,
-    metaplay_play, metaplay_prepare,
+    metaplay_play, metaplay_prepare, metaplay_prepare_print,
 };

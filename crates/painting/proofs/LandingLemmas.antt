@@ -1,5 +1,5 @@
 -- Points of the page that land within the limits.
-use Rattle.std.proofs.Common.{◌≡◌, ◌<◌, ℕ, zero, suc, slice_index_or, ℤ, pos, ◌≤ℤ◌, Bool, true, List, [], ◌∷◌, arith, ap, subst, sym, ◌∙◌}
+use Rattle.std.proofs.Common.{◌≡◌, ◌<◌, ℕ, zero, suc, slice_index_or, ℤ, pos, ◌≤ℤ◌, Bool, true, List, [], ◌∷◌, ◌++◌, arith, ap, subst, sym, ◌∙◌}
 use Rattle.std.proofs.lemmas.Bool.{and_parts}
 use Rattle.std.proofs.lemmas.Int.{ints}
 use Rattle.std.proofs.lemmas.List.{append-nil}
@@ -101,6 +101,9 @@ module _ (by : Projection) where
         All-cons (AllLand by) ps ls (list_lands ps parts.0) (lists_land ls parts.1)
 
     -- the same for points after a first one that is within the limits of lines
+    pub start_lands : (p : Point) (ps : List Point) → list_all (λ q. lands_within_limits q s) (points_of_lists ((p ∷ mapped_list (map_numbers by.map) ps) ∷ [])) ≡ true → lands_within_limits p s ≡ true
+    start_lands p ps t = (and_parts (lands_within_limits p s) (list_all (λ q. lands_within_limits q s) (mapped_list (map_numbers by.map) ps ++ [])) t).0
+
     pub start_and_list_land : (p : Point) (ps : List Point) → list_all (λ q. lands_within_limits q s) (points_of_lists ((p ∷ mapped_list (map_numbers by.map) ps) ∷ [])) ≡ true → IsNearPoint (placed_point p s) × AllLand by ps
     start_and_list_land p ps t =
         let others = mapped_list (map_numbers by.map) ps in

@@ -1,9 +1,9 @@
 -- Small paths worked by hand: the lines of their figures.
-use Rattle.std.proofs.Common.{◌≡◌, ◌≢◌, ℤ, pos, Bool, true, false, List, [], ◌∷◌, refl}
+use Rattle.std.proofs.Common.{◌≡◌, ◌≢◌, ℤ, pos, Bool, true, false, List, [], ◌∷◌, refl, arith}
 use Rattle.mapping.specs.Surface.{Surface}
 use Rattle.mapping.specs.declared.geometry.Point.{Point}
 use Rattle.mapping.specs.declared.map_mode.MapMode.TheVariants.{Text}
-use Rattle.mapping.specs.declared.page_map.PageAxis.{PageAxis}
+use Rattle.mapping.specs.declared.page_axis.PageAxis.{PageAxis}
 use Rattle.mapping.specs.declared.page_map.PageMap.{PageMap}
 use Rattle.dc_stack.specs.Figures.{Figure, all_figures}
 use Rattle.dc_stack.specs.Pieces.{figures_of}
@@ -75,7 +75,16 @@ axis origin = record {
 }
 
 abbrev map_at : ℤ → PageMap
-map_at column = record { mode = Text; x = axis column; y = axis (pos 0) }
+map_at column = record {
+  mode = Text;
+  one_to_one = true;
+  parts = 1;
+  x = axis column;
+  y = axis (pos 0);
+  some_parts = omega arith;
+  few_parts = omega arith;
+  tested = refl;
+}
 
 abbrev piece : PiecePoints → ℤ → Verb → FigureEnd → Piece
 piece points column verb end = record { points = points; map = map_at column; verb = verb; end = end }

@@ -19,6 +19,7 @@ use Rattle.draw_ops.specs.declared.raster_op.RasterOp.TheVariants.{Nop, Not}
 use Rattle.draw_ops.specs.declared.settings.BackgroundMode.TheVariants.{Transparent}
 use Rattle.draw_ops.specs.declared.settings.FillMode.TheVariants.{Winding}
 use Rattle.object_tables.specs.Table.{by_lowest_free}
+use Rattle.draw_ops.specs.RuleSets.{core_rules}
 use Rattle.dc_stack.specs.State.{State, start_state}
 use Rattle.preflight_cert.specs.Apply.{image_after}
 use Rattle.preflight_cert.specs.Drawings.{drawings_of}
@@ -57,7 +58,7 @@ half = record { width = 2; height = 2; frame_width = 4; frame_height = 4 }
 
 -- a file's start whose map doesn't scale
 abbrev start : State
-start = start_state (unscaled_map (record { x = pos 0; y = pos 0 })) by_lowest_free
+start = start_state core_rules (unscaled_map (record { x = pos 0; y = pos 0 })) by_lowest_free
 
 abbrev step_of : Operation → StepValue
 step_of operation = record { number = 0; operation = operation; notes = no_notes }

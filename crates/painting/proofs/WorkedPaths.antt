@@ -13,6 +13,7 @@ use Rattle.draw_ops.specs.Objects.{brush_object, solid_brush}
 use Rattle.draw_ops.specs.Operation.{Operation, begin_path, close_figure, create, end_path, fill_path, line_to, move_to, pixel, polygon, polyline, rectangle, select, stroke_and_fill_path, stroke_path}
 use Rattle.draw_ops.specs.declared.operation.RectangleEdges.TheVariants.{Inclusive}
 use Rattle.object_tables.specs.Table.{by_lowest_free}
+use Rattle.draw_ops.specs.RuleSets.{core_rules}
 use Rattle.dc_stack.specs.State.{State, start_state}
 use Rattle.preflight_cert.specs.Apply.{image_after}
 use Rattle.preflight_cert.specs.Drawings.{drawings_of}
@@ -34,7 +35,7 @@ abbrev four : Surface
 four = record { width = 4; height = 4; frame_width = 4; frame_height = 4 }
 
 abbrev start : State
-start = start_state (unscaled_map (record { x = pos 0; y = pos 0 })) by_lowest_free
+start = start_state core_rules (unscaled_map (record { x = pos 0; y = pos 0 })) by_lowest_free
 
 abbrev step_of : Operation → StepValue
 step_of operation = record { number = 0; operation = operation; notes = no_notes }

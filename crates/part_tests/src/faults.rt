@@ -51,6 +51,12 @@ fn a_fault_shows_its_name_and_the_record_that_it_speaks_of(rt: HostRuntime) -> R
             "NibTooSmall",
             "NibTooSmall",
         ),
+        (
+            Fault::Record(RecordFault::EmfPlusAlone),
+            48,
+            "EmfPlusAlone",
+            "EmfPlusAlone",
+        ),
     ] {
         same(&rt, fault.code(), code);
         same(&rt, fault.name(), name);

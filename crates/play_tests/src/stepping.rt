@@ -9,7 +9,7 @@ use std::alloc::Global;
 
 /// A machine at the start of a file, at 2 by 2.
 pub(crate) fn machine<'a>(alloc: Global, opened: &Opened<'a>) -> Machine<'a, LowestFree<'a>> {
-    let place = Place::new(&opened.frame, 2, 2);
+    let place = Place::new(&opened.fine_frame, 2, 2);
     Machine::new(alloc, opened, place, LowestFree::new(alloc))
 }
 

@@ -43,7 +43,7 @@ module _ (answers : AnswerLaws) (sizes : SizeLaws) (contents : ContentIsOne) (cl
   smaller = subst (λ (t : Surface). IsNoLarger t (bound_of o c)) ready.surface ready.ready.within
 
   frame : ShowsFrame (bound_of o c)
-  frame = record { wide = cleared.opened.frame.wide; high = cleared.opened.frame.high }
+  frame = record { wide = cleared.opened.fine_frame.wide; high = cleared.opened.fine_frame.high }
 
   -- the records have one content, and it has no fault on this surface
   one : ExactlyOne (HasContentOf o.format records)
@@ -52,7 +52,7 @@ module _ (answers : AnswerLaws) (sizes : SizeLaws) (contents : ContentIsOne) (cl
   abbrev content : Content
   content = one.value
 
-  of_file : (file : List ℕ) → IsOpenedFrom file cleared.opened → IsFile file o content
+  of_file : (file : List ℕ) → IsOpenedFrom file cleared.opened → IsFile cleared.opened.rules file o content
   of_file file from = record { opens = from.opens; records = subst (λ (bytes : List ℕ). HasContentOf o.format bytes content) from.records one.holds }
 
   of_run : IsClearedText cleared plan.width plan.height plan.start (ppm_text (rows_played o content s plan.start 0 plan.height))

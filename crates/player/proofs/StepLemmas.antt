@@ -1,6 +1,6 @@
 -- If a step fails on a machine with enough memory, or the source breaks, the whole stops.
-use Rattle.std.proofs.Common.{◌≡◌, length, Option, Some, None, inl, inr, refl, sym, ap, ◌∙◌, arith}
-use Rattle.std.specs.Option.{option_map}
+use Rattle.std.proofs.Common.{◌≡◌, ℕ, List, [], ◌∷◌, length, Option, Some, None, inl, inr, refl, sym, ap, ◌∙◌, arith}
+use Rattle.std.specs.Option.{option_map, option_or}
 use Rattle.mapping.specs.Surface.{Surface}
 use Rattle.draw_ops.specs.Content.{Content, StepValue, broken_by, with_step}
 use Rattle.draw_ops.specs.declared.fault.Fault.{Fault}
@@ -13,7 +13,7 @@ use Rattle.dc_stack.specs.OperationFault.{fault_of}
 use Rattle.dc_stack.specs.State.{State}
 use Rattle.player.specs.After.{HasCapacityForSteps}
 use Rattle.preflight_cert.specs.NeedLaws.{HasCapacityFor, NeedLaws}
-use Rattle.preflight_cert.specs.Stop.{Stop, broken_after, stop_at, stopped}
+use Rattle.preflight_cert.specs.Stop.{Stop, broken_after, emf_plus_stop, step_stop, stop_at, stop_of, stopped, stopped_or}
 
 -- memory for the needs of all steps is memory for those of the first
 capacity_for_first : NeedLaws → (step : StepValue) (rest : Content) (m : MachineState) → HasCapacityForSteps (with_step step rest) m → HasCapacityFor (needs_of step.operation m.state) m
@@ -68,3 +68,22 @@ pub rejected_stops :
 rejected_stops laws whole left rest step start m fault is capacity rejects same none =
     at_first whole left start m.state m.surface same rest step is
     (found_of (fault_of step.operation m.state m.surface) fault (rejected_by_fault laws left rest step m fault is capacity rejects)) none
+
+-- if a content doesn't stop, no step of it has a fault, and its records don't break
+pub steps_unstopped : (content : Content) (state : State) (s : Surface) → stop_of content state s ≡ None → step_stop content state s ≡ None
+steps_unstopped content state s h = over content.steps state _ _ (first _ _) h
+  where
+    first : (one other : Option Stop) → option_or one other ≡ None → one ≡ None
+    first None other h = refl
+    first (Some stop) other h = absurd (cc)
+
+    kept : (number : ℕ) (fault : Option RecordFault) (later other : Option Stop) → (later ≡ None → other ≡ None) → stopped_or number fault later ≡ None
+        → stopped_or number fault other ≡ None
+    kept number None later other f h = f h
+    kept number (Some fault) later other f h = absurd (cc)
+
+    over : (steps : List StepValue) (state : State) (after other : Option Stop) → (after ≡ None → other ≡ None) → stopped steps after state s ≡ None
+        → stopped steps other state s ≡ None
+    over [] state after other f h = f h
+    over (step ∷ steps) state after other f h =
+        kept step.number (fault_of step.operation state s) _ _ (over steps (next step.operation state) after other f) h

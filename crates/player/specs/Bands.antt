@@ -7,6 +7,7 @@ use Rattle.mapping.specs.declared.geometry.Colour.{Colour}
 use Rattle.draw_ops.specs.Content.{Content}
 use Rattle.draw_ops.specs.declared.fault.Fault.{Fault}
 use Rattle.draw_ops.specs.declared.fault.Fault.TheVariants.{WriteFault}
+use Rattle.draw_ops.specs.declared.rules.Rules.{Rules}
 use Rattle.canvas.specs.CanvasState.{CanvasState, image_of}
 use Rattle.canvas.specs.Ppm.{AppendsPrefix, header, ppm_text, raster}
 use Rattle.meta_headers.specs.File.{IsOpenedFrom}
@@ -22,16 +23,16 @@ use Rattle.preflight_cert.specs.declared.cleared.Cleared.{Cleared}
 use Rattle.player.specs.Ready.{surface_of_file}
 use Rattle.player.specs.declared.band_plan.BandPlan.{BandPlan}
 
--- the text is the P6 text of the image that the run of a file makes from the start image
-pub record IsRunText (file : List ℕ) (width height : ℕ) (start : Image) (text : List ℕ) : Type 0 where
+-- the text is the P6 text of the image that the run of a file under rules makes from the start image
+pub record IsRunText (rules : Rules) (file : List ℕ) (width height : ℕ) (start : Image) (text : List ℕ) : Type 0 where
   pub image : Image
-  pub run : Run file width height start (shown image)
+  pub run : Run rules file width height start (shown image)
   pub is_text : text ≡ ppm_text image
 
 -- the text is that of the run of the cleared file, over one colour
 abbrev pub IsClearedText : Cleared → ℕ → ℕ → Colour → List ℕ → Type 0
 IsClearedText cleared width height start text =
-    (file : List ℕ) → IsOpenedFrom file cleared.opened → IsRunText file width height (blank width height start) text
+    (file : List ℕ) → IsOpenedFrom file cleared.opened → IsRunText cleared.opened.rules file width height (blank width height start) text
 
 -- the text of the run was written
 pub record WritesRun (cleared : Cleared) (width height : ℕ) (start : Colour) (old new : Option (List ℕ)) : Type 0 where

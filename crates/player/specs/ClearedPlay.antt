@@ -7,8 +7,8 @@ use Rattle.preflight_cert.specs.declared.cleared.Cleared.{Cleared}
 
 -- the canvas shows the image that the file's run makes from the old image
 abbrev pub LeavesRun : Cleared → CanvasState → CanvasState → Type 0
-LeavesRun cleared old new = (file : List ℕ) → IsOpenedFrom file cleared.opened → Run file old.width old.rows (image_of old) (shown (image_of new))
+LeavesRun cleared old new = (file : List ℕ) → IsOpenedFrom file cleared.opened → Run cleared.opened.rules file old.width old.rows (image_of old) (shown (image_of new))
 
 -- the file's run writes this number of pixels at this size
 abbrev pub AreClearedWrites : Cleared → ℕ → ℕ → ℕ → Type 0
-AreClearedWrites cleared width height writes = (file : List ℕ) → IsOpenedFrom file cleared.opened → RunWrites file width height writes
+AreClearedWrites cleared width height writes = (file : List ℕ) → IsOpenedFrom file cleared.opened → RunWrites cleared.opened.rules file width height writes

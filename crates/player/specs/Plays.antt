@@ -10,19 +10,19 @@ use Rattle.dc_stack.specs.MachineState.{MachineState}
 use Rattle.dc_stack.specs.State.{start_of}
 use Rattle.preflight_cert.specs.Apply.{image_after, rows_after}
 use Rattle.preflight_cert.specs.Drawings.{drawings_of}
-use Rattle.preflight_cert.specs.Stop.{stop_of}
+use Rattle.preflight_cert.specs.Stop.{step_stop, stop_of}
 use Rattle.preflight_cert.specs.Writes.{writes_after, writes_of_drawings}
 
 -- all steps of the content were played from a machine's state, without a fault, and the canvas shows their drawings on
 -- its rows
 pub record PlaysContent (content : Content) (start : MachineState) (old new : CanvasState) : Type 0 where
-  pub unstopped : stop_of content start.state start.surface ≡ None
+  pub unstopped : step_stop content start.state start.surface ≡ None
   pub image : image_of new ≡ rows_after (drawings_of content.steps start.state) start.surface old.first (image_of old)
   pub writes : new.writes ≡ old.writes + writes_of_drawings (drawings_of content.steps start.state) start.surface old.first old.rows
 
--- the content stops at a fault
+-- a step of the content has a fault, or its records break
 abbrev pub Stops : Content → MachineState → Type 0
-Stops content start = stop_of content start.state start.surface ≡ None → ⊥
+Stops content start = step_stop content start.state start.surface ≡ None → ⊥
 
 -- all records of a file in some format were played and drawn
 pub record PlaysRecords (format : FileFormat) (records : List ℕ) (start : MachineState) (old new : CanvasState) : Type 0 where

@@ -49,7 +49,6 @@ pub fn play(alloc: Global, cleared: &Cleared<'_>, canvas: &mut Canvas) -> Result
 }
 
 /// Plays on a machine and with memory that meet the certificate's needs. It can't fail.
-#[tactic(auto, using(crate::proofs::WholeSurfaceLemmas::whole))]
 fn play_reserved<'a, T: Table<'a>>(
     cleared: &Cleared<'a>,
     machine: &mut Machine<'a, T>,

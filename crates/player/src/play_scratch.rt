@@ -62,7 +62,7 @@ fn capacity_within<'a>(
 {
     let opened = &cleared.opened;
     let needs = cleared.certificate.needs;
-    let place = Place::new(&opened.frame, width, height);
+    let place = Place::new(&opened.fine_frame, width, height);
     let table = FileTable::new(alloc, opened.handles);
     let mut machine = Machine::new(alloc, opened, place, table);
     let Ok(()) = machine.reserve(

@@ -14,9 +14,11 @@ use Rattle.draw_ops.specs.RecordContent.{ContentIsOne}
 use Rattle.draw_ops.specs.declared.fault.Fault.{Fault}
 use Rattle.draw_ops.specs.declared.fault.Fault.TheVariants.{BudgetTooSmall, NeedTooSmall}
 use Rattle.draw_ops.specs.declared.record_fault.RecordFault.TheVariants.{BoxTooSmall, NibTooSmall, WrongEntry}
+use Rattle.draw_ops.specs.declared.rules.Rules.{Rules}
 use Rattle.meta_headers.specs.File.{FileIsOne, IsFile}
 use Rattle.meta_headers.specs.Headers.{OpenedValue}
-use Rattle.meta_headers.specs.Opening.{framing_of, meaning_of, opened, record_bytes, surface_for}
+use Rattle.meta_headers.specs.Opening.{framing_of, meaning_of, record_bytes, surface_for}
+use Rattle.meta_headers.specs.OpeningRules.{opened_by}
 use Rattle.dc_stack.specs.Drawing.{Drawing, drawing_nib, drawing_of, drawing_points}
 use Rattle.dc_stack.specs.Next.{next}
 use Rattle.dc_stack.specs.OperationFault.{fault_of}
@@ -25,7 +27,7 @@ use Rattle.dc_stack.specs.declared.needs.Needs.{Needs}
 use Rattle.preflight_cert.specs.After.{file_needs}
 use Rattle.preflight_cert.specs.Answer.{Answer, AnswerLaws, AnswersOpened, AnswersRead, Fits, RecordsAnswer, Sound, accepted, answer_from, answer_to, are_within, bound_of, file_budget, rejects}
 use Rattle.preflight_cert.specs.Apply.{image_after}
-use Rattle.preflight_cert.specs.CertificateReading.{CertificateValue, read_certificate}
+use Rattle.preflight_cert.specs.CertificateReading.{CertificateValue, read_certificate, rules_in}
 use Rattle.preflight_cert.specs.Checked.{checked, left_over}
 use Rattle.preflight_cert.specs.Drawings.{NumberedDrawing, drawing_then, drawings_of}
 use Rattle.meta_headers.specs.OpeningLaws.{OpeningLaws}
@@ -33,7 +35,7 @@ use Rattle.preflight_cert.specs.Entries.{AreCovered, Covers, covers, covers_nib,
 use Rattle.preflight_cert.specs.NeedLaws.{AreWithin}
 use Rattle.preflight_cert.specs.Run.{Rejected, ShowsImage, StopsInRecord, RunWrites}
 use Rattle.preflight_cert.specs.SizeLaws.{SizeLaws}
-use Rattle.preflight_cert.specs.Stop.{Stop, broken_after, stop_at, stop_of, stopped}
+use Rattle.preflight_cert.specs.Stop.{Stop, end_of, stop_at, stop_of, stopped}
 use Rattle.preflight_cert.specs.Writes.{writes_after}
 use Rattle.preflight_cert.specs.declared.certificate_entry.Entry.{Entry}
 use Rattle.preflight_cert.proofs.CoverLemmas.{points_in, points_of}
@@ -150,15 +152,15 @@ fits_of content o c h =
     let none = both_none _ _ h in
     let pair = both_true (are_within (file_needs content o) c.needs) (nat_le (file_budget content o c) c.writes) none.1 in
     record {
-      unstopped = unstopped_of (bound_of o c) (broken_after (length content.steps) content.fault) (length content.steps) content.steps (start_of o) c.entries none.0;
-      covered = covered_of (bound_of o c) (broken_after (length content.steps) content.fault) (length content.steps) content.steps (start_of o) c.entries none.0;
+      unstopped = unstopped_of (bound_of o c) (end_of content (start_of o)) (length content.steps) content.steps (start_of o) c.entries none.0;
+      covered = covered_of (bound_of o c) (end_of content (start_of o)) (length content.steps) content.steps (start_of o) c.entries none.0;
       needs = within_of (file_needs content o) c.needs pair.0;
       budget = leb-true _ _ pair.1;
     }
 
 accepted_of : (content : Content) (o : OpenedValue) (c : CertificateValue) → Fits c o content → accepted ≡ answer_to content o c
 accepted_of content o c fits =
-    let order = checked_from (bound_of o c) (broken_after (length content.steps) content.fault) (length content.steps) content.steps (start_of o) c.entries fits.unstopped fits.covered in
+    let order = checked_from (bound_of o c) (end_of content (start_of o)) (length content.steps) content.steps (start_of o) c.entries fits.unstopped fits.covered in
     let within = within_from (file_needs content o) c.needs fits.needs in
     let few = le-leb _ _ fits.budget in
     rw (order, within, few) refl
@@ -186,34 +188,34 @@ some_none stop at h k = cc
 no_larger : (o : OpenedValue) (c : CertificateValue) (width height : ℕ) → width ≤ c.max_width → height ≤ c.max_height → IsNoLarger (surface_for o width height) (bound_of o c)
 no_larger o c width height w h = record { width = w; height = h; frame_width = refl; frame_height = refl }
 
-module _ (one : FileIsOne) (laws : SizeLaws) (file : List ℕ) (o : OpenedValue) (opens : opened file ≡ Ok o) (c : CertificateValue) (frame : ShowsFrame (bound_of o c)) (answer : RecordsAnswer o (record_bytes o.format file) c accepted) where
+module _ (one : FileIsOne) (laws : SizeLaws) (rules : Rules) (file : List ℕ) (o : OpenedValue) (opens : opened_by rules file ≡ Ok o) (c : CertificateValue) (frame : ShowsFrame (bound_of o c)) (answer : RecordsAnswer o (record_bytes o.format file) c accepted) where
   abbrev fits : Fits c o answer.content
   fits = fits_of answer.content o c answer.answers
 
-  of_file : IsFile file o answer.content
+  of_file : IsFile rules file o answer.content
   of_file = record { opens = opens; records = answer.of_records }
 
-  same : (headers : OpenedValue) (content : Content) → IsFile file headers content → ◌≡◌ {A = OpenedValue × Content} (headers, content) (o, answer.content)
-  same headers content h = let the_one = one file o opens in the_one.only (headers, content) h ∙ sym (the_one.only (o, answer.content) of_file)
+  same : (headers : OpenedValue) (content : Content) → IsFile rules file headers content → ◌≡◌ {A = OpenedValue × Content} (headers, content) (o, answer.content)
+  same headers content h = let the_one = one rules file o opens in the_one.only (headers, content) h ∙ sym (the_one.only (o, answer.content) of_file)
 
   unstopped : (width height : ℕ) → width ≤ c.max_width → height ≤ c.max_height → stop_of answer.content (start_of o) (surface_for o width height) ≡ None
   unstopped width height w h = laws.unstopped answer.content (start_of o) (surface_for o width height) (bound_of o c) frame (no_larger o c width height w h) fits.unstopped
 
   shows_image : (width height : ℕ) (image : Image) → width ≤ c.max_width → height ≤ c.max_height
-      → ShowsImage file width height image (image_after (drawings_of answer.content.steps (start_of o)) (surface_for o width height) image)
+      → ShowsImage rules file width height image (image_after (drawings_of answer.content.steps (start_of o)) (surface_for o width height) image)
   shows_image width height image w h = record { headers = o; content = answer.content; of_file = of_file; unstopped = unstopped width height w h; shows = refl }
 
-  never_stops : (width height number : ℕ) (fault : Fault) → width ≤ c.max_width → height ≤ c.max_height → StopsInRecord file width height number fault → ⊥
+  never_stops : (width height number : ℕ) (fault : Fault) → width ≤ c.max_width → height ≤ c.max_height → StopsInRecord rules file width height number fault → ⊥
   never_stops width height number fault w h k =
       let e = ap (λ (it : OpenedValue × Content). stop_of it.1 (start_of it.0) (surface_for it.0 width height)) (same k.headers k.content k.of_file) in
       let none = unstopped width height w h in
       let some = k.stops in some_none _ (stop_at number k.here) some (e ∙ none)
 
-  never_rejected : (width height : ℕ) (number : Option ℕ) (fault : Fault) → width ≤ c.max_width → height ≤ c.max_height → Rejected file width height number fault → ⊥
-  never_rejected width height None fault w h k = opens_or_not (opened file) o fault opens k
+  never_rejected : (width height : ℕ) (number : Option ℕ) (fault : Fault) → width ≤ c.max_width → height ≤ c.max_height → Rejected rules file width height number fault → ⊥
+  never_rejected width height None fault w h k = opens_or_not (opened_by rules file) o fault opens k
   never_rejected width height (Some number) fault w h k = never_stops width height number fault w h k
 
-  few_written : (width height writes : ℕ) → width ≤ c.max_width → height ≤ c.max_height → RunWrites file width height writes → writes ≤ c.writes
+  few_written : (width height writes : ℕ) → width ≤ c.max_width → height ≤ c.max_height → RunWrites rules file width height writes → writes ≤ c.writes
   few_written width height writes w h k =
       let e = ap (λ (it : OpenedValue × Content). writes_after (drawings_of it.1.steps (start_of it.0)) (surface_for it.0 width height)) (same k.headers k.content k.of_file) in
       let few = laws.few (drawings_of answer.content.steps (start_of o)) c.entries (surface_for o width height) (bound_of o c) frame (no_larger o c width height w h) fits.covered in
@@ -225,19 +227,19 @@ from_answer : (o : Result OpenedValue Fault) (v : OpenedValue) (c : CertificateV
 from_answer o v c file bytes answer e f h = let k : AnswersRead (read_certificate bytes) v (record_bytes v.format file) answer = rw e at h in rw f at k
 
 pub sound_of :
-    FileIsOne → OpeningLaws → SizeLaws → (file : List ℕ) (o : OpenedValue) (c : CertificateValue) → opened file ≡ Ok o → RecordsAnswer o (record_bytes o.format file) c accepted
-    → Sound file c.max_width c.max_height c.writes
-sound_of one opening laws file o c e answer =
-    let frame = opening.frame file o c.max_width c.max_height e in
+    FileIsOne → OpeningLaws → SizeLaws → (rules : Rules) (file : List ℕ) (o : OpenedValue) (c : CertificateValue) → opened_by rules file ≡ Ok o
+    → RecordsAnswer o (record_bytes o.format file) c accepted → Sound rules file c.max_width c.max_height c.writes
+sound_of one opening laws rules file o c e answer =
+    let frame = opening.frame rules file o c.max_width c.max_height e in
     record {
-      shows = λ width height image w k. record { after = _; ends = shows_image one laws file o e c frame answer width height image w k };
-      faultless = λ width height image number fault w k r. never_rejected one laws file o e c frame answer width height number fault w k r;
-      few = λ width height writes w k r. few_written one laws file o e c frame answer width height writes w k r;
+      shows = λ width height image w k. record { after = _; ends = shows_image one laws rules file o e c frame answer width height image w k };
+      faultless = λ width height image number fault w k r. never_rejected one laws rules file o e c frame answer width height number fault w k r;
+      few = λ width height writes w k r. few_written one laws rules file o e c frame answer width height writes w k r;
     }
 
 pub answer_laws : ContentIsOne → FileIsOne → OpeningLaws → SizeLaws → AnswerLaws
 answer_laws one of_file opening laws = record {
-  one = λ file certificate. one_opened one (opened file) file certificate;
+  one = λ file certificate. one_opened one (opened_by (rules_in certificate) file) file certificate;
   fits = λ content o c. (fits_of content o c, accepted_of content o c);
-  sound = λ file bytes o c e f h. sound_of of_file opening laws file o c e (from_answer (opened file) o c file bytes accepted e f h);
+  sound = λ file bytes o c e f h. sound_of of_file opening laws (rules_in bytes) file o c e (from_answer (opened_by (rules_in bytes) file) o c file bytes accepted e f h);
 }

@@ -1,24 +1,26 @@
 -- Bytes that are read as a certificate are its text.
 use Rattle.std.proofs.Common.{◌≡◌, Bool, true, false, ◌&&◌, cond, Option, Some, None, Result, Ok, Err, ℕ, zero, suc, ◌*◌, ◌<◌, ◌≤◌, ◌^◌, List, [], ◌∷◌, ◌++◌, length, drop, refl, ap, sym, subst, ◌∙◌, arith}
 use Rattle.std.specs.List.{All, flat_map}
-use Rattle.std.specs.Prelude.{◌==◌, nat_le, nat_lt, not}
+use Rattle.std.specs.Prelude.{◌==◌, codes, nat_le, nat_lt, not}
 use Rattle.std.proofs.Math.Nat.{mul-suc, mul-zero}
 use Rattle.std.proofs.lemmas.Bool.{and_parts, eqb-true, leb-true, ltb-false, true≢false}
-use Rattle.std.proofs.lemmas.List.{length-drop}
+use Rattle.std.proofs.lemmas.List.{drop-drop, length-drop}
 use Rattle.std.proofs.lemmas.List.Elements.{All-cons, All-drop, All-nil}
 use Rattle.mapping.specs.Limits.{is_surface_side}
 use Rattle.mapping.specs.Nibs.{is_nib, nib_true}
 use Rattle.mapping.proofs.LimitLemmas.{tests_are_limits}
+use Rattle.draw_ops.specs.RuleSets.{has_fine_plane}
 use Rattle.draw_ops.specs.declared.fault.Fault.{Fault}
 use Rattle.draw_ops.specs.declared.fault.Fault.TheVariants.{BadBound, NotCertificate, ShortCertificate, TrailingBytes}
 use Rattle.point_views.specs.Numbers.{number_at}
 use Rattle.dc_stack.specs.Drawing.{edge_limit}
 use Rattle.dc_stack.specs.Path.{piece_limit}
-use Rattle.preflight_cert.specs.CertificateReading.{CertificateValue, are_bounded_needs, count_in, entries_in, entry_limit, entry_size, first_entry, have_nibs, is_bounded, mark_of, needs_in, nib_in, read_certificate, read_version, read_whole, value_in, version_of, whole_size}
-use Rattle.preflight_cert.specs.CertificateText.{certificate_text, entry_text, head_of, mark_text, nib_text, number_text, text_with}
+use Rattle.preflight_cert.specs.CertificateReading.{CertificateValue, allowed_by, are_bounded_needs, count_in, entries_in, entry_limit, entry_size, first_entry, have_nibs, is_bounded, is_by_print, mark_of, needs_in, nib_in, print_mark, read_certificate, read_print, read_version, read_whole, rules_in, value_in, version_of, whole_size}
+use Rattle.preflight_cert.specs.CertificateText.{allowed_number, certificate_text, entry_text, head_of, mark_text, nib_text, number_text, numbers_with}
 use Rattle.preflight_cert.specs.TextLaws.{AreBytes, HasNibOf, IsCertificate, IsEntry}
 use Rattle.preflight_cert.specs.declared.version.Version.{Version}
 use Rattle.preflight_cert.specs.declared.version.Version.TheVariants.{Mpc1, Mpc2}
+use Rattle.preflight_cert.proofs.CertificateTextLemmas.{core_text, numbers_of}
 use Rattle.preflight_cert.proofs.EntryLemmas.{entry_least, length-entries_in}
 use Rattle.preflight_cert.proofs.NumberTextLemmas.{long_again, long_small, number_again, number_small, short_again, signed_fits, signed_number_again}
 use Rattle.preflight_cert.proofs.TextPartLemmas.{number_is_mark}
@@ -144,11 +146,9 @@ pub record IsRead (bytes : List ℕ) (found : Option Version) (c : CertificateVa
   pub nibs : have_nibs (value_in version bytes).entries ≡ true
   pub value : value_in version bytes ≡ c
 
-read_by : (few : Bool) (found : Option Version) (bytes : List ℕ) (c : CertificateValue) → cond few (Err NotCertificate) (read_version found bytes) ≡ Ok c
-    → IsRead bytes found c
-read_by true found bytes c e = absurd (no_fault NotCertificate c e)
-read_by false None bytes c e = absurd (no_fault NotCertificate c e)
-read_by false (Some version) bytes c e =
+read_by : (found : Option Version) (bytes : List ℕ) (c : CertificateValue) → read_version found bytes ≡ Ok c → IsRead bytes found c
+read_by None bytes c e = absurd (no_fault NotCertificate c e)
+read_by (Some version) bytes c e =
     let p = passed (nat_lt (length bytes) 40) (is_bounded bytes) (read_whole version bytes) c e in
     let q =
     ended (nat_lt (length bytes) (whole_size version bytes)) (nat_lt (whole_size version bytes) (length bytes)) (have_nibs (value_in version bytes).entries)
@@ -163,39 +163,69 @@ read_by false (Some version) bytes c e =
       value = q.3;
     }
 
-is_read : (bytes : List ℕ) (c : CertificateValue) → read_certificate bytes ≡ Ok c → IsRead bytes (version_of (number_at bytes 0 4)) c
-is_read bytes c e = read_by (nat_lt (length bytes) 4) (version_of (number_at bytes 0 4)) bytes c e
+-- which of the profiles reads the bytes
+by_core : (few print : Bool) (fine rest : Result CertificateValue Fault) (c : CertificateValue) → print ≡ false → cond few (Err NotCertificate) (cond print fine rest) ≡ Ok c → rest ≡ Ok c
+by_core true print fine rest c p e = absurd (no_fault NotCertificate c e)
+by_core false true fine rest c p e = absurd (cc p)
+by_core false false fine rest c p e = e
 
-module _ (bytes : List ℕ) (c : CertificateValue) (all : AreBytes bytes) (h : IsRead bytes (version_of (number_at bytes 0 4)) c) where
+by_print : (few print : Bool) (fine rest : Result CertificateValue Fault) (c : CertificateValue) → print ≡ true → cond few (Err NotCertificate) (cond print fine rest) ≡ Ok c → fine ≡ Ok c
+by_print true print fine rest c p e = absurd (no_fault NotCertificate c e)
+by_print false false fine rest c p e = absurd (cc p)
+by_print false true fine rest c p e = e
+
+-- what was found of bytes of the print profile
+pub record IsReadUnderPrint (bytes : List ℕ) (c : CertificateValue) : Type 0 where
+  pub head : 44 ≤ length bytes
+  pub allowed : number_at bytes 4 4 ≤ 3
+  pub read : IsRead (drop 4 bytes) (Some Mpc2) c
+
+fine_parts : (short many : Bool) (rest : Result CertificateValue Fault) (c : CertificateValue) → cond short (Err ShortCertificate) (cond many (Err BadBound) rest) ≡ Ok c → (short ≡ false) × (many ≡ false) × (rest ≡ Ok c)
+fine_parts true many rest c e = absurd (no_fault ShortCertificate c e)
+fine_parts false true rest c e = absurd (no_fault BadBound c e)
+fine_parts false false rest c e = (refl, refl, e)
+
+read_under_core : (bytes : List ℕ) (c : CertificateValue) → is_by_print bytes ≡ false → read_certificate bytes ≡ Ok c → IsRead bytes (version_of (number_at bytes 0 4)) c
+read_under_core bytes c core e = read_by (version_of (number_at bytes 0 4)) bytes c (by_core (nat_lt (length bytes) 4) (is_by_print bytes) (read_print bytes) _ c core e)
+
+read_under_print : (bytes : List ℕ) (c : CertificateValue) → is_by_print bytes ≡ true → read_certificate bytes ≡ Ok c → IsReadUnderPrint bytes c
+read_under_print bytes c print e =
+    let fine = by_print (nat_lt (length bytes) 4) (is_by_print bytes) (read_print bytes) _ c print e in
+    let parts = fine_parts (nat_lt (length bytes) 44) (nat_lt 3 (number_at bytes 4 4)) (read_version (Some Mpc2) (drop 4 bytes)) c fine in
+    record {
+      head = ltb-false (length bytes) 44 parts.0;
+      allowed = ltb-false 3 (number_at bytes 4 4) parts.1;
+      read = read_by (Some Mpc2) (drop 4 bytes) c parts.2;
+    }
+
+module _ (bytes : List ℕ) (found : Option Version) (c : CertificateValue) (all : AreBytes bytes) (h : IsRead bytes found c) where
   abbrev version : Version
   version = h.version
 
   after : length (drop 40 bytes) ≡ entry_size version * count_in bytes
   after = let len = length-drop 40 bytes in let whole = h.whole in omega (arith, len, whole)
 
-  -- the numbers in front of the entries
-  prefix_again : (rest : List ℕ) → rest ≡ drop 40 bytes → text_with version (head_of (value_in version bytes)) (count_in bytes) rest ≡ bytes
-  prefix_again rest e =
+  -- the numbers in front of the entries, behind the first four bytes
+  numbers_again : (rest : List ℕ) → rest ≡ drop 40 bytes → numbers_with (head_of (value_in version bytes)) (count_in bytes) rest ≡ drop 4 bytes
+  numbers_again rest e =
       let head = h.head in
-      marked_prefix version bytes _ (is_marked (number_at bytes 0 4) version h.marked)
-      (number_again 0 bytes all _ (omega (arith, head))
-      (number_again 4 bytes all _ (omega (arith, head))
+      number_again 4 bytes all _ (omega (arith, head))
       (number_again 8 bytes all _ (omega (arith, head))
       (long_again 12 bytes all (omega (arith, head)) _
       (number_again 20 bytes all _ (omega (arith, head))
       (number_again 24 bytes all _ (omega (arith, head))
       (number_again 28 bytes all _ (omega (arith, head))
       (number_again 32 bytes all _ (omega (arith, head))
-      (number_again 36 bytes all rest (omega (arith, head)) e)))))))))
+      (number_again 36 bytes all rest (omega (arith, head)) e)))))))
 
   after_bytes : AreBytes (drop 40 bytes)
   after_bytes = All-drop (λ byte. byte < 2 ^ 8) 40 bytes all
 
-  pub value_text : certificate_text (value_in version bytes) ≡ bytes
-  value_text =
-      ap (λ (n : ℕ). text_with version (head_of (value_in version bytes)) n (flat_map (entry_text version) (value_in version bytes).entries))
+  value_numbers : numbers_with (head_of (value_in version bytes)) (length (value_in version bytes).entries) (flat_map (entry_text version) (value_in version bytes).entries) ≡ drop 4 bytes
+  value_numbers =
+      ap (λ (n : ℕ). numbers_with (head_of (value_in version bytes)) n (flat_map (entry_text version) (value_in version bytes).entries))
       (length-entries_in version (count_in bytes) (drop 40 bytes))
-      ∙ prefix_again _ (entries_again version (count_in bytes) (drop 40 bytes) after_bytes after)
+      ∙ numbers_again _ (entries_again version (count_in bytes) (drop 40 bytes) after_bytes after)
 
   value_is_certificate : IsCertificate (value_in version bytes)
   value_is_certificate =
@@ -218,8 +248,65 @@ module _ (bytes : List ℕ) (c : CertificateValue) (all : AreBytes bytes) (h : I
         entries = entries_read version (count_in bytes) (drop 40 bytes) after_bytes after h.nibs;
       }
 
-pub is_text : (bytes : List ℕ) (c : CertificateValue) → AreBytes bytes → read_certificate bytes ≡ Ok c → bytes ≡ certificate_text c
-is_text bytes c all e = let h = is_read bytes c e in sym (value_text bytes c all h) ∙ ap certificate_text h.value
+-- the bytes of the core profile
+core_bytes : (bytes : List ℕ) (c : CertificateValue) → AreBytes bytes → IsRead bytes (version_of (number_at bytes 0 4)) c → bytes ≡ core_text c
+core_bytes bytes c all h =
+    let head = h.head in
+    let found = version_of (number_at bytes 0 4) in
+    let whole = marked_prefix h.version bytes _ (is_marked (number_at bytes 0 4) h.version h.marked) (number_again 0 bytes all _ (omega (arith, head)) (value_numbers bytes found c all h)) in
+    sym whole ∙ ap core_text h.value
+
+-- what is allowed, as its number
+number_allowed : (n : ℕ) → n ≤ 3 → allowed_number (allowed_by n) ≡ n
+number_allowed zero few = refl
+number_allowed (suc zero) few = refl
+number_allowed (suc (suc zero)) few = refl
+number_allowed (suc (suc (suc zero))) few = refl
+number_allowed (suc (suc (suc (suc n)))) few = absurd (omega (arith, few))
+
+print_prefix : (bytes : List ℕ) → number_at bytes 0 4 ≡ print_mark → number_text (number_at bytes 0 4) ++ drop 4 bytes ≡ bytes → codes "MPC3" ++ drop 4 bytes ≡ bytes
+unfolding print_mark
+print_prefix bytes marked e = ap (λ (n : ℕ). number_text n ++ drop 4 bytes) (sym marked) ∙ e
+
+-- the bytes of the print profile
+print_bytes : (bytes : List ℕ) (c : CertificateValue) → AreBytes bytes → is_by_print bytes ≡ true → IsReadUnderPrint bytes c → bytes ≡ codes "MPC3" ++ (number_text (number_at bytes 4 4) ++ numbers_of c)
+print_bytes bytes c all print h =
+    let head = h.head in
+    let plain = All-drop (λ byte. byte < 2 ^ 8) 4 bytes all in
+    let numbers = value_numbers (drop 4 bytes) (Some Mpc2) c plain h.read in
+    let behind : numbers_of c ≡ drop 8 bytes = ap numbers_of (sym h.read.value) ∙ numbers ∙ drop-drop 4 4 bytes in
+    let again = number_again 4 bytes all _ (omega (arith, head)) behind in
+    sym (ap (λ (rest : List ℕ). codes "MPC3" ++ rest) again
+    ∙ print_prefix bytes (eqb-true (number_at bytes 0 4) print_mark print) (number_again 0 bytes all (drop 4 bytes) (omega (arith, head)) refl))
+
+pub is_text : (bytes : List ℕ) (c : CertificateValue) → AreBytes bytes → read_certificate bytes ≡ Ok c → bytes ≡ certificate_text (rules_in bytes) c
+is_text bytes c all e = by_profile (is_by_print bytes) refl
+  where
+    by_profile : (print : Bool) → is_by_print bytes ≡ print → bytes ≡ certificate_text (rules_in bytes) c
+    by_profile false core = rw core (core_bytes bytes c all (read_under_core bytes c core e))
+    by_profile true print =
+        let h = read_under_print bytes c print e in
+        rw (print, number_allowed (number_at bytes 4 4) h.allowed) (print_bytes bytes c all print h)
 
 pub is_certificate : (bytes : List ℕ) (c : CertificateValue) → AreBytes bytes → read_certificate bytes ≡ Ok c → IsCertificate c
-is_certificate bytes c all e = let h = is_read bytes c e in subst IsCertificate h.value (value_is_certificate bytes c all h)
+is_certificate bytes c all e = by_profile (is_by_print bytes) refl
+  where
+    by_profile : (print : Bool) → is_by_print bytes ≡ print → IsCertificate c
+    by_profile false core =
+        let h = read_under_core bytes c core e in
+        subst IsCertificate h.value (value_is_certificate bytes (version_of (number_at bytes 0 4)) c all h)
+    by_profile true print =
+        let h = (read_under_print bytes c print e).read in
+        subst IsCertificate h.value (value_is_certificate (drop 4 bytes) (Some Mpc2) c (All-drop (λ byte. byte < 2 ^ 8) 4 bytes all) h)
+
+later : (found : Option Version) (version : Version) → found ≡ Some Mpc2 → found ≡ Some version → version ≡ Mpc2
+later found version e f = cc
+
+pub has_version : (bytes : List ℕ) (c : CertificateValue) → read_certificate bytes ≡ Ok c → has_fine_plane (rules_in bytes) ≡ true → c.version ≡ Mpc2
+has_version bytes c e fine = by_profile (is_by_print bytes) refl fine
+  where
+    by_profile : (print : Bool) → is_by_print bytes ≡ print → has_fine_plane (rules_in bytes) ≡ true → c.version ≡ Mpc2
+    by_profile false core fine = absurd (true≢false (sym fine ∙ rw core refl))
+    by_profile true print fine =
+        let h = (read_under_print bytes c print e).read in
+        ap (λ (v : CertificateValue). v.version) (sym h.value) ∙ later (Some Mpc2) h.version refl h.marked

@@ -6,13 +6,14 @@ use Rattle.draw_ops.specs.Content.{Content}
 use Rattle.draw_ops.specs.RecordContent.{ContentIsOne}
 use Rattle.draw_ops.specs.declared.fault.Fault.{Fault}
 use Rattle.meta_headers.specs.Headers.{OpenedValue}
-use Rattle.meta_headers.specs.Opening.{HasContentOf, framing_of, meaning_of, opened, record_bytes}
+use Rattle.meta_headers.specs.Opening.{HasContentOf, framing_of, meaning_of, record_bytes}
+use Rattle.meta_headers.specs.OpeningRules.{opened_by}
 use Rattle.dc_stack.specs.MachineState.{MachineState}
 use Rattle.dc_stack.specs.State.{State, start_of}
 use Rattle.dc_stack.specs.declared.needs.Needs.{Needs}
-use Rattle.preflight_cert.specs.After.{file_notes, needs_after, notes_after}
+use Rattle.preflight_cert.specs.After.{file_notes, file_uses, needs_after, notes_after}
 use Rattle.preflight_cert.specs.Answer.{Answer, AnswersRead, CountsRecords, IsAnswer, IsCleared, RecordsAnswer, accepted, answer_from, answer_to, bound_of, rejects, total_fault}
-use Rattle.preflight_cert.specs.CertificateReading.{CertificateValue, read_certificate}
+use Rattle.preflight_cert.specs.CertificateReading.{CertificateValue, read_certificate, rules_in}
 use Rattle.preflight_cert.specs.Checked.{check_of}
 use Rattle.preflight_cert.specs.Checks.{Checks}
 use Rattle.preflight_cert.specs.Drawings.{drawings_of}
@@ -48,14 +49,16 @@ module _ (content : Content) (o : OpenedValue) (records : List ℕ) (c : Certifi
 -- what was counted of one content is counted of the records
 pub records_counted :
     ContentIsOne → (content : Content) (o : OpenedValue) (records : List ℕ) → HasContentOf o.format records content → (noted : List ℕ) (totals : Totals) → noted ≡ o.notes
-    → totals.records ≡ length content.steps → totals.notes.counts ≡ notes_after content.steps noted → CountsRecords o records totals.records totals.notes.counts
-records_counted one content o records of_records noted totals of_headers counted kept =
+    → totals.records ≡ length content.steps → totals.notes.counts ≡ notes_after content.steps noted → totals.uses ≡ file_uses content o
+    → CountsRecords o records totals.records totals.notes.counts totals.uses
+records_counted one content o records of_records noted totals of_headers counted kept used =
     let the_one = one (framing_of o.format) (meaning_of o.format) records in
     let same : (other : Content) → HasContentOf o.format records other → content ≡ other =
     λ (other : Content) (h : HasContentOf o.format records other). the_one.only content of_records ∙ sym (the_one.only other h) in
     record {
       all = λ other h. counted ∙ ap (λ (k : Content). length k.steps) (same other h);
       notes = λ other h. kept ∙ ap (λ (counts : List ℕ). notes_after content.steps counts) of_headers ∙ ap (λ (k : Content). file_notes k o) (same other h);
+      uses = λ other h. used ∙ ap (λ (k : Content). file_uses k o) (same other h);
     }
 
 pub cleared : ContentIsOne → (o : OpenedValue) (records : List ℕ) (c : CertificateValue) → RecordsAnswer o records c accepted → IsCleared o records c
@@ -79,11 +82,16 @@ accepted_reads (Ok c) o records answer = refl
 accepted_reads (Err fault) o records answer = absurd (true≢false (ap is_accepted answer))
 
 -- the answer to records is that to the file
-pub file_answer : (file bytes records : List ℕ) (o : OpenedValue) (c : CertificateValue) (answer : Answer) → opened file ≡ Ok o → read_certificate bytes ≡ Ok c → records ≡ record_bytes o.format file
+pub file_answer : (file bytes records : List ℕ) (o : OpenedValue) (c : CertificateValue) (answer : Answer) → opened_by (rules_in bytes) file ≡ Ok o → read_certificate bytes ≡ Ok c → records ≡ record_bytes o.format file
     → RecordsAnswer o records c answer → IsAnswer file bytes answer
 file_answer file bytes records o c answer e f g h = rw (e, f, sym g) h
 
-pub file_refusal : {W : Type 0} (file bytes records : List ℕ) (o : OpenedValue) (c : CertificateValue) (answer : Answer) → opened file ≡ Ok o → read_certificate bytes ≡ Ok c → records ≡ record_bytes o.format file
+pub file_refusal : {W : Type 0} (file bytes records : List ℕ) (o : OpenedValue) (c : CertificateValue) (answer : Answer) → opened_by (rules_in bytes) file ≡ Ok o → read_certificate bytes ≡ Ok c → records ≡ record_bytes o.format file
     → RecordsAnswer o records c answer ⊎ W → IsAnswer file bytes answer ⊎ W
 file_refusal file bytes records o c answer e f g (inl h) = inl (file_answer file bytes records o c answer e f g h)
 file_refusal file bytes records o c answer e f g (inr w) = inr w
+
+-- the answer to what is read for the records is that to the file
+pub bytes_answer : (file bytes records : List ℕ) (o : OpenedValue) → opened_by (rules_in bytes) file ≡ Ok o → records ≡ record_bytes o.format file
+    → AnswersRead (read_certificate bytes) o records accepted → IsAnswer file bytes accepted
+bytes_answer file bytes records o opens g h = rw opens (rw g at h)

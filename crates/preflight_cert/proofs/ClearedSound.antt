@@ -23,5 +23,5 @@ pub cleared_is_sound : ContentIsOne → FileIsOne → OpeningLaws → SizeLaws �
 cleared_is_sound one of_file opening laws c file from =
     let o = opened_of c.opened in
     let k = certificate_of c.certificate in
-    sound_of of_file opening laws file o k from.opens
+    sound_of of_file opening laws c.opened.rules file o k from.opens
     (subst (λ (records : List ℕ). RecordsAnswer o records k accepted) from.records (answered one o c.opened.records.now k c.checked))

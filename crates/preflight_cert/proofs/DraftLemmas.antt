@@ -1,17 +1,19 @@
 -- A draft with one entry more, with all nibs, and with its head.
-use Rattle.std.proofs.Common.{◌≡◌, Bool, true, false, ◌&&◌, ◌==◌, if◌then◌else◌, ℕ, zero, suc, ◌+◌, ◌-◌, ◌*◌, ◌/◌, ◌<◌, ◌≤◌, ◌^◌, List, [], ◌∷◌, ◌++◌, length, drop, take, replicate, refl, ap, sym, subst, ◌∙◌, arith}
+use Rattle.std.proofs.Common.{◌≡◌, Bool, true, false, ◌&&◌, not, ◌==◌, if◌then◌else◌, ℕ, zero, suc, ◌+◌, ◌-◌, ◌*◌, ◌/◌, ◌<◌, ◌≤◌, ◌^◌, List, [], ◌∷◌, ◌++◌, length, drop, take, replicate, refl, ap, sym, subst, ◌∙◌, arith}
 use Rattle.std.specs.List.{flat_map}
 use Rattle.std.proofs.Math.Nat.{mul-div_cancel_left}
 use Rattle.std.proofs.lemmas.Bool.{and_parts, eqb-true}
 use Rattle.std.proofs.lemmas.List.{append_assoc, append-nil, drop-append-le, drop-drop, drop-take, drop_all, drop_at, flat_map_more, length-append, length-drop, length-take-le, take-take, take_all}
 use Rattle.std.proofs.lemmas.List.Folds.{list_all-append}
 use Rattle.mapping.specs.declared.nib.Nib.{Nib}
+use Rattle.draw_ops.specs.RuleSets.{has_fine_plane}
+use Rattle.draw_ops.specs.declared.rules.Rules.{Rules}
 use Rattle.span_fill.specs.WideStrokes.{one_pixel}
-use Rattle.preflight_cert.specs.CertificateReading.{entry_size}
-use Rattle.preflight_cert.specs.CertificateText.{HeadValue, entry_text, nib_text, text_with}
-use Rattle.preflight_cert.specs.DraftOf.{Adds, Holds, StandIn}
+use Rattle.preflight_cert.specs.CertificateReading.{entry_size, mark_of, print_mark}
+use Rattle.preflight_cert.specs.CertificateText.{HeadValue, allowed_number, entry_text, nib_text, number_text, text_with}
+use Rattle.preflight_cert.specs.DraftOf.{Adds, Holds, StandIn, space_for}
 use Rattle.preflight_cert.specs.Preparation.{have_single_pixels, version_for}
-use Rattle.preflight_cert.specs.TextParts.{bound_text, head_text}
+use Rattle.preflight_cert.specs.TextParts.{bound_text, head_text, totals_text}
 use Rattle.preflight_cert.specs.declared.draft.Draft.{Draft}
 use Rattle.preflight_cert.specs.declared.certificate_entry.Entry.{Entry}
 use Rattle.preflight_cert.specs.declared.version.Version.{Version}
@@ -31,8 +33,8 @@ one_is nib t =
     ap (λ (x : ℕ). a_nib x nib.y) (eqb-true _ _ parts.0) ∙ ap (λ (y : ℕ). a_nib 1 y) (eqb-true _ _ parts.1)
 
 -- the version of entries, and of one more
-abbrev version_by : Bool → Version
-version_by single = if single then Mpc1 else Mpc2
+abbrev version_by : Rules → Bool → Version
+version_by rules single = if not (has_fine_plane rules) && single then Mpc1 else Mpc2
 
 both : (first second : Bool) → (first && (second && true)) ≡ (first && second)
 both first true = refl
@@ -52,32 +54,43 @@ singles_then entries entry test e =
     list_all-append (λ (one : Entry). one.nib.x == 1 && one.nib.y == 1) entries (entry ∷ [])
     ∙ both (have_single_pixels entries) (entry.nib.x == 1 && entry.nib.y == 1) ∙ ap (λ (t : Bool). have_single_pixels entries && t) e
 
-pub plain_then : (entries : List Entry) (entry : Entry) → (entry.nib.x == 1 && entry.nib.y == 1) ≡ true
-    → version_for (entries ++ (entry ∷ [])) ≡ version_for entries
-plain_then entries entry e = ap version_by (singles_then entries entry true e ∙ with_true (have_single_pixels entries))
+pub plain_then : (rules : Rules) (entries : List Entry) (entry : Entry) → (entry.nib.x == 1 && entry.nib.y == 1) ≡ true
+    → version_for rules (entries ++ (entry ∷ [])) ≡ version_for rules entries
+plain_then rules entries entry e = ap (version_by rules) (singles_then entries entry true e ∙ with_true (have_single_pixels entries))
 
-pub wide_then : (entries : List Entry) (entry : Entry) → (entry.nib.x == 1 && entry.nib.y == 1) ≡ false
-    → version_for (entries ++ (entry ∷ [])) ≡ Mpc2
-wide_then entries entry e = ap version_by (singles_then entries entry false e ∙ with_false (have_single_pixels entries))
+without_single : (fine : Bool) → (if not fine && false then Mpc1 else Mpc2) ≡ Mpc2
+without_single true = refl
+without_single false = refl
+
+pub wide_then : (rules : Rules) (entries : List Entry) (entry : Entry) → (entry.nib.x == 1 && entry.nib.y == 1) ≡ false
+    → version_for rules (entries ++ (entry ∷ [])) ≡ Mpc2
+wide_then rules entries entry e =
+    ap (version_by rules) (singles_then entries entry false e ∙ with_false (have_single_pixels entries)) ∙ without_single (has_fine_plane rules)
+
+-- a draft of the first version is one of the core profile, and each of its nibs is one pixel
+pub first_is_core : (fine single : Bool) → (if not fine && single then Mpc1 else Mpc2) ≡ Mpc1 → (fine ≡ false) × (single ≡ true)
+first_is_core true single e = absurd (cc)
+first_is_core false true e = (refl, refl)
+first_is_core false false e = absurd (cc)
 
 -- one entry more
-pub stand_then : (version : Version) (old new : List ℕ) (entries : List Entry) (entry : Entry) → StandIn version old entries
-    → new ≡ old ++ entry_text version entry → StandIn version new (entries ++ (entry ∷ []))
-stand_then version old new entries entry h e =
+pub stand_then : (space : ℕ) (version : Version) (old new : List ℕ) (entries : List Entry) (entry : Entry) → StandIn space version old entries
+    → new ≡ old ++ entry_text version entry → StandIn space version new (entries ++ (entry ∷ []))
+stand_then space version old new entries entry h e =
     let capacity = h.capacity in
     let size : length new ≡ length old + length (entry_text version entry) = ap length e ∙ length-append old (entry_text version entry) in
     record {
       capacity = omega (arith, capacity, size);
-      after = ap (λ (bytes : List ℕ). drop 40 bytes) e ∙ drop-append-le 40 old (entry_text version entry) capacity
+      after = ap (λ (bytes : List ℕ). drop space bytes) e ∙ drop-append-le space old (entry_text version entry) capacity
           ∙ ap (λ (bytes : List ℕ). bytes ++ entry_text version entry) h.after ∙ flat_map_more (entry_text version) [] entries entry;
     }
 
 -- entries in a row of additions
 pub adds_none : (draft : Draft) → Adds draft draft []
-adds_none draft before h = subst (Holds draft) (sym (append-nil before)) h
+adds_none draft rules before h = subst (Holds rules draft) (sym (append-nil before)) h
 
 pub adds_then : (old draft new : Draft) (first second : List Entry) → Adds old draft first → Adds draft new second → Adds old new (first ++ second)
-adds_then old draft new first second f g before h = subst (Holds new) (append_assoc before first second) (g (before ++ first) (f before h))
+adds_then old draft new first second f g rules before h = subst (Holds rules new) (append_assoc before first second) (g rules (before ++ first) (f rules before h))
 
 -- the entry at an index, whose nib is one pixel if each is
 record IsAt (index : ℕ) (entries : List Entry) : Type 0 where
@@ -178,43 +191,57 @@ length_put now bytes capacity size =
     omega (arith, prefix, all, most, capacity, size)
 
 -- what was made longer by noughts
-pub longer : (bytes : List ℕ) (entries : List Entry) (n more : ℕ) → StandIn Mpc1 bytes entries → length bytes ≤ n
+pub longer : (bytes : List ℕ) (entries : List Entry) (n more : ℕ) → StandIn 40 Mpc1 bytes entries → length bytes ≤ n
     → drop 40 (take n bytes ++ replicate more 0) ≡ plain_text entries ++ replicate more 0
 longer bytes entries n more h long =
     ap (λ (kept : List ℕ). drop 40 (kept ++ replicate more 0)) (take_all n bytes long)
     ∙ drop-append-le 40 bytes (replicate more 0) h.capacity ∙ ap (λ (kept : List ℕ). kept ++ replicate more 0) h.after
 
 pub nibs_stand : (now bytes : List ℕ) (entries : List Entry) → 40 ≤ length now → length bytes ≡ length now - 40 → bytes ≡ wide_text entries
-    → StandIn Mpc2 (put_mid 40 (length now - 40) now bytes) entries
+    → StandIn 40 Mpc2 (put_mid 40 (length now - 40) now bytes) entries
 nibs_stand now bytes entries capacity size e =
     let all = length_put now bytes capacity size in
     record { capacity = omega (arith, all, capacity); after = put_after now bytes capacity size ∙ e }
 
 -- how many entries stand in bytes
-pub sized : (version : Version) (bytes : List ℕ) (entries : List Entry) → StandIn version bytes entries → length bytes - 40 ≡ entry_size version * length entries
-sized version bytes entries h = sym (length-drop 40 bytes) ∙ ap length h.after ∙ length-entries version entries
+pub sized : (space : ℕ) (version : Version) (bytes : List ℕ) (entries : List Entry) → StandIn space version bytes entries
+    → length bytes - space ≡ entry_size version * length entries
+sized space version bytes entries h = sym (length-drop space bytes) ∙ ap length h.after ∙ length-entries version entries
 
-pub counted : (version : Version) (bytes : List ℕ) (entries : List Entry) → StandIn version bytes entries
-    → (length bytes - 40) / entry_size version ≡ length entries
-counted version bytes entries h =
+pub counted : (space : ℕ) (version : Version) (bytes : List ℕ) (entries : List Entry) → StandIn space version bytes entries
+    → (length bytes - space) / entry_size version ≡ length entries
+counted space version bytes entries h =
     let least = entry_least version in
     let some : zero < entry_size version = omega (arith, least) in
-    rw (sized version bytes entries h) (mul-div_cancel_left (length entries) some)
+    rw (sized space version bytes entries h) (mul-div_cancel_left (length entries) some)
 
-pub short_text : (version : Version) (bytes : List ℕ) (entries : List Entry) → StandIn version bytes entries → length entries ≤ 2 ^ 20 → length bytes < 2 ^ 32
-short_text Mpc1 bytes entries h few = let size = sized Mpc1 bytes entries h in omega (arith, size, few)
-short_text Mpc2 bytes entries h few = let size = sized Mpc2 bytes entries h in omega (arith, size, few)
+pub short_text : (space : ℕ) (version : Version) (bytes : List ℕ) (entries : List Entry) → space ≤ 44 → StandIn space version bytes entries → length entries ≤ 2 ^ 20 → length bytes < 2 ^ 32
+short_text space Mpc1 bytes entries small h few = let size = sized space Mpc1 bytes entries h in omega (arith, small, size, few)
+short_text space Mpc2 bytes entries small h few = let size = sized space Mpc2 bytes entries h in omega (arith, small, size, few)
+
+pub small_space : (rules : Rules) → space_for rules ≤ 44
+small_space rules = by_profile (has_fine_plane rules)
+  where
+    by_profile : (fine : Bool) → (if fine then 44 else 40) ≤ 44
+    by_profile true = omega arith
+    by_profile false = omega arith
 
 -- the head in front of the entries
-pub finished : (version : Version) (head : HeadValue) (count : ℕ) (bytes prefix : List ℕ) (entries : List Entry) → StandIn version bytes entries
-    → prefix ≡ head_text version head count → count ≡ length entries
-    → prefix ++ drop 40 bytes ≡ text_with version head (length entries) (flat_map (entry_text version) entries)
-finished version head count bytes prefix entries h e same =
-    parts_with version head (length entries) (flat_map (entry_text version) entries) (bound_text version head.max_width head.max_height)
-    (head_text version head (length entries)) (prefix ++ drop 40 bytes) refl refl
-    (ap (λ (first : List ℕ). first ++ drop 40 bytes) (e ∙ ap (head_text version head) same)
-    ∙ ap (λ (bytes : List ℕ). head_text version head (length entries) ++ bytes) h.after)
+pub finished : (rules : Rules) (version : Version) (head : HeadValue) (count : ℕ) (bytes prefix : List ℕ) (entries : List Entry) → StandIn (space_for rules) version bytes entries
+    → prefix ≡ head_text rules version head count → count ≡ length entries
+    → prefix ++ drop (space_for rules) bytes ≡ text_with rules version head (length entries) (flat_map (entry_text version) entries)
+finished rules version head count bytes prefix entries h e same =
+    parts_with rules version head (length entries) (flat_map (entry_text version) entries) (bound_text rules version head.max_width head.max_height)
+    (head_text rules version head (length entries)) (prefix ++ drop (space_for rules) bytes) refl refl
+    (ap (λ (first : List ℕ). first ++ drop (space_for rules) bytes) (e ∙ ap (head_text rules version head) same)
+    ∙ ap (λ (bytes : List ℕ). head_text rules version head (length entries) ++ bytes) h.after)
 
 -- and it takes the room that there was
-pub length-head : (version : Version) (head : HeadValue) (count : ℕ) → length (head_text version head count) ≡ 40
-length-head version head count = omega arith
+pub length-head : (rules : Rules) (version : Version) (head : HeadValue) (count : ℕ) → length (head_text rules version head count) ≡ space_for rules
+length-head rules version head count = by_profile (has_fine_plane rules)
+  where
+    by_profile : (fine : Bool)
+        → length (((if fine then number_text print_mark ++ number_text (allowed_number rules.allowed) else number_text (mark_of version)) ++ (number_text head.max_width ++ number_text head.max_height)) ++ totals_text head.writes head.needs count)
+        ≡ (if fine then 44 else 40)
+    by_profile true = omega arith
+    by_profile false = omega arith

@@ -15,6 +15,7 @@ pub mod NumberTextLemmas
 pub mod CertificateTextLemmas
 pub mod CertificateReadingLemmas
 pub mod WorkedCertificates
+pub mod EmfPlusLemmas
 pub mod BudgetLemmas
 pub mod BudgetLimits
 pub mod CoverLemmas
@@ -26,6 +27,7 @@ pub mod BoundingBoxLemmas
 pub mod PreparationLemmas
 pub mod DraftLemmas
 pub mod GatheredLemmas
+pub mod RulesLemmas
 pub mod PreparedLawLemmas
 pub mod PreparedLemmas
 pub mod WorkedChecks

@@ -1,5 +1,5 @@
 -- The needs of records without a fault are within what any file needs.
-use Rattle.std.proofs.Common.{◌≡◌, List, [], ◌∷◌, length, Option, None, refl, subst, ◌∙◌, arith}
+use Rattle.std.proofs.Common.{◌≡◌, List, [], ◌∷◌, Option, None, refl, subst, ◌∙◌, arith}
 use Rattle.mapping.specs.Surface.{Surface}
 use Rattle.draw_ops.specs.Content.{Content, StepValue}
 use Rattle.meta_headers.specs.Headers.{OpenedValue}
@@ -11,7 +11,7 @@ use Rattle.dc_stack.specs.State.{State, start_of}
 use Rattle.dc_stack.specs.declared.needs.Needs.{Needs}
 use Rattle.preflight_cert.specs.After.{file_needs, needs_after}
 use Rattle.preflight_cert.specs.NeedLaws.{AreWithin, most_needs}
-use Rattle.preflight_cert.specs.Stop.{Stop, broken_after, stop_of, stopped}
+use Rattle.preflight_cert.specs.Stop.{Stop, end_of, stop_of, stopped}
 use Rattle.preflight_cert.proofs.OperationNeeds.{nothing_within, same_kind, within}
 use Rattle.preflight_cert.proofs.StopLemmas.{none_first, none_here, none_later}
 
@@ -36,4 +36,4 @@ module _ (laws : CreatedIndexIsBelowBound) (kind : TableKind) (s : Surface) wher
 pub limited : CreatedIndexIsBelowBound → (content : Content) (o : OpenedValue) (s : Surface) → stop_of content (start_of o) s ≡ None → AreWithin (file_needs content o) (most_needs (table_kind_of o.handles))
 limited laws content o s h =
     let kind = table_kind_of o.handles in
-    all_within laws kind s content.steps (broken_after (length content.steps) content.fault) (start_of o) no_needs h refl (nothing_within kind)
+    all_within laws kind s content.steps (end_of content (start_of o)) (start_of o) no_needs h refl (nothing_within kind)

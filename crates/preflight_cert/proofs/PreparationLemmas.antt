@@ -7,17 +7,19 @@ use Rattle.mapping.specs.PlacingLaws.{ShowsFrame}
 use Rattle.mapping.specs.Surface.{Surface}
 use Rattle.mapping.specs.declared.geometry.Rect.{Rect}
 use Rattle.draw_ops.specs.Content.{Content}
+use Rattle.draw_ops.specs.declared.rules.Rules.{Rules}
 use Rattle.dc_stack.specs.Drawing.{drawing_nib, drawing_points}
 use Rattle.dc_stack.specs.State.{start_of}
 use Rattle.dc_stack.specs.declared.needs.Needs.{Needs}
 use Rattle.meta_headers.specs.Headers.{OpenedValue}
-use Rattle.meta_headers.specs.Opening.{opened, surface_for}
+use Rattle.meta_headers.specs.Opening.{surface_for}
 use Rattle.preflight_cert.specs.After.{file_needs}
 use Rattle.preflight_cert.specs.Answer.{Fits, bound_of, file_budget}
 use Rattle.preflight_cert.specs.CertificateReading.{CertificateValue}
 use Rattle.preflight_cert.specs.Drawings.{NumberedDrawing, drawings_of}
 use Rattle.preflight_cert.specs.Entries.{AreCovered, budget_of}
 use Rattle.meta_headers.specs.OpeningLaws.{OpeningLaws}
+use Rattle.meta_headers.specs.OpeningRules.{opened_by}
 use Rattle.preflight_cert.specs.Layer.{layers_of}
 use Rattle.preflight_cert.specs.NeedLaws.{AreWithin}
 use Rattle.preflight_cert.specs.Preparation.{AreLeast, IsPrepared, version_for}
@@ -128,13 +130,13 @@ module _ (c other : CertificateValue) (o : OpenedValue) (content : Content) (wid
   one : c ≡ other
   one =
       same_certificate c.version other.version c.max_width other.max_width c.max_height other.max_height c.writes other.writes c.needs other.needs c.entries other.entries
-      (h.version ∙ ap version_for same_entries ∙ sym k.version) (h.wide ∙ sym k.wide) (h.high ∙ sym k.high) same_writes
+      (h.version ∙ ap (version_for o.rules) same_entries ∙ sym k.version) (h.wide ∙ sym k.wide) (h.high ∙ sym k.high) same_writes
       (h.needs ∙ sym k.needs) same_entries
 
-least : CellLaws → WideCellLaws → OpeningLaws → (c other : CertificateValue) (file : List ℕ) (o : OpenedValue) (content : Content) → opened file ≡ Ok o
+least : CellLaws → WideCellLaws → OpeningLaws → (c other : CertificateValue) (rules : Rules) (file : List ℕ) (o : OpenedValue) (content : Content) → opened_by rules file ≡ Ok o
     → IsPrepared c o content other.max_width other.max_height → Fits other o content → IsNoMore c other
-least laws wide_laws opening c other file o content opens h fitting =
-    let frame = opening.frame file o other.max_width other.max_height opens in
+least laws wide_laws opening c other rules file o content opens h fitting =
+    let frame = opening.frame rules file o other.max_width other.max_height opens in
     let drawings = drawings_of content.steps (start_of o) in
     let grows = budget_grows (bound_of o other) laws wide_laws frame drawings c.entries other.entries h.entries fitting.covered in
     let same : file_budget content o c ≡ budget_of drawings c.entries (bound_of o other) = ap (λ (s : Surface). budget_of drawings c.entries s) (same_bound c o other.max_width other.max_height h.wide h.high) in

@@ -1,5 +1,5 @@
 -- A file that plays has a certificate, which is accepted.
-use Rattle.std.proofs.Common.{◌≡◌, ℕ, suc, ◌+◌, ◌<◌, ◌≤◌, ◌^◌, Bool, true, false, List, [], ◌∷◌, length, Option, Some, None, Result, Ok, Err, refl, ap, subst, ◌∙◌, arith}
+use Rattle.std.proofs.Common.{◌≡◌, ℕ, suc, ◌+◌, ◌<◌, ◌≤◌, ◌^◌, Bool, true, false, List, [], ◌∷◌, length, Option, Some, None, Result, Ok, Err, refl, ap, sym, subst, ◌∙◌, arith}
 use Rattle.std.specs.Prelude.{IfSome, IsTrue}
 use Rattle.std.specs.List.{All}
 use Rattle.std.proofs.lemmas.Bool.{and_parts}
@@ -11,14 +11,17 @@ use Rattle.mapping.specs.Surface.{Surface}
 use Rattle.draw_ops.specs.Content.{Content, StepValue}
 use Rattle.draw_ops.specs.NumberLaws.{StepsAreNumbered}
 use Rattle.draw_ops.specs.Records.{record_limit}
+use Rattle.draw_ops.specs.RuleSets.{has_fine_plane, in_force}
+use Rattle.draw_ops.specs.declared.rules.Rules.{Rules}
 use Rattle.draw_ops.specs.declared.fault.Fault.{Fault}
 use Rattle.dc_stack.specs.Drawing.{Drawing, drawing_of}
 use Rattle.dc_stack.specs.Next.{next}
 use Rattle.dc_stack.specs.State.{State, start_of}
 use Rattle.meta_headers.specs.Headers.{OpenedValue}
-use Rattle.meta_headers.specs.Opening.{HasContentOf, framing_of, meaning_of, opened, record_bytes, surface_for}
+use Rattle.meta_headers.specs.Opening.{HasContentOf, framing_of, meaning_of, record_bytes, surface_for}
+use Rattle.meta_headers.specs.OpeningRules.{opened_by}
 use Rattle.preflight_cert.specs.Answer.{AnswerLaws, IsAnswer, RecordsAnswer, Shows, accepted}
-use Rattle.preflight_cert.specs.CertificateReading.{CertificateValue, read_certificate}
+use Rattle.preflight_cert.specs.CertificateReading.{CertificateValue, read_certificate, rules_in}
 use Rattle.preflight_cert.specs.CertificateText.{certificate_text}
 use Rattle.preflight_cert.specs.Drawings.{NumberedDrawing, drawing_then, drawings_of}
 use Rattle.meta_headers.specs.OpeningLaws.{OpeningLaws}
@@ -27,13 +30,14 @@ use Rattle.preflight_cert.specs.NeedLaws.{NeedLaws}
 use Rattle.preflight_cert.specs.Preparation.{Prepares, PreparesIfOpened, PreparesRecords, PreparesWithin, have_single_pixels, is_bound}
 use Rattle.preflight_cert.specs.PreparationLaws.{PreparationLaws}
 use Rattle.preflight_cert.specs.PreparedLaws.{AreCertificate, HasPrepared, PreparedLaws}
-use Rattle.preflight_cert.specs.Stop.{broken_after, stop_of}
-use Rattle.preflight_cert.specs.TextLaws.{AreBytes, IsCertificate, IsEntry, TextLaws}
+use Rattle.preflight_cert.specs.Stop.{end_of, stop_of}
+use Rattle.preflight_cert.specs.TextLaws.{AreBytes, HasVersionUnder, IsCertificate, IsEntry, TextLaws}
 use Rattle.preflight_cert.specs.declared.version.Version.TheVariants.{Mpc2}
 use Rattle.preflight_cert.proofs.BudgetLimits.{of_drawings}
 use Rattle.preflight_cert.proofs.ClearedLemmas.{file_answer}
 use Rattle.preflight_cert.proofs.EntryLimits.{entries_fit}
-use Rattle.preflight_cert.proofs.PreparedLemmas.{by_version, few_entries, few_slots, is_prepared, least_certificate}
+use Rattle.preflight_cert.proofs.PreparedLemmas.{by_version, few_entries, few_slots, is_prepared, least_certificate, version_under}
+use Rattle.preflight_cert.proofs.RulesLemmas.{in_force_twice, rules_again}
 use Rattle.preflight_cert.proofs.StepCountLemmas.{few_steps}
 
 -- each step has at most one drawing, and each drawing one entry
@@ -82,7 +86,7 @@ module _ (numbers : StepsAreNumbered) (needs : NeedLaws) (content : Content) (o 
 
   fit : All (IsEntry Mpc2) (least_entries drawings s)
   fit = let all = short in
-      entries_fit s content.steps (broken_after (length content.steps) content.fault) (start_of o) 0 unstopped (numbers (framing_of o.format) (meaning_of o.format) records content of_records) (omega (arith, all))
+      entries_fit s content.steps (end_of content (start_of o)) (start_of o) 0 unstopped (numbers (framing_of o.format) (meaning_of o.format) records content of_records) (omega (arith, all))
 
   within : IsCertificate made
   within =
@@ -98,52 +102,65 @@ module _ (numbers : StepsAreNumbered) (needs : NeedLaws) (content : Content) (o 
         edges = most.edges;
         pieces = most.pieces;
         few = few_entries (length made.entries) (omega (arith, size, all));
-        entries = by_version (have_single_pixels made.entries) made.entries refl fit;
+        entries = by_version (has_fine_plane o.rules) (have_single_pixels made.entries) made.entries refl fit;
       }
 
 module _ (boxes : BoxLaws) (numbers : StepsAreNumbered) (opening : OpeningLaws) (needs : NeedLaws) (preparation : PreparationLaws) (texts : TextLaws) (answers : AnswerLaws) where
-  module _ (file bytes : List ℕ) (width height : ℕ) (wide : IsSurfaceSide width) (high : IsSurfaceSide height) (o : OpenedValue) (opens : opened file ≡ Ok o) (are : AreBytes file)
+  module _ (rules : Rules) (file bytes : List ℕ) (width height : ℕ) (wide : IsSurfaceSide width) (high : IsSurfaceSide height) (o : OpenedValue) (opens : opened_by rules file ≡ Ok o) (are : AreBytes file)
       (p : PreparesRecords o (record_bytes o.format file) width height bytes) where
     is_made : least_certificate p.content o width height ≡ p.certificate
     is_made = preparation.one (least_certificate p.content o width height) p.certificate o p.content width height (is_prepared boxes p.content o width height) p.is_prepared
 
     its_limits : IsCertificate p.certificate
-    its_limits = subst IsCertificate is_made (within numbers needs p.content o (record_bytes o.format file) p.of_records width height wide high (opening.handles file o are opens) p.unstopped)
+    its_limits = subst IsCertificate is_made (within numbers needs p.content o (record_bytes o.format file) p.of_records width height wide high (opening.handles rules file o are opens) p.unstopped)
 
-    certificate : AreCertificate bytes
-    certificate = record { value = p.certificate; within = its_limits; is_text = p.is_text }
+    its_rules : o.rules ≡ in_force rules
+    its_rules = opening.in_force rules file o opens
+
+    is_text : bytes ≡ certificate_text (in_force rules) p.certificate
+    is_text = p.is_text ∙ ap (λ (r : Rules). certificate_text r p.certificate) its_rules
+
+    same_rules : rules_in bytes ≡ in_force rules
+    same_rules = ap rules_in is_text ∙ rules_again texts (in_force rules) p.certificate ∙ in_force_twice rules
+
+    opens_again : opened_by (rules_in bytes) file ≡ Ok o
+    opens_again = ap (λ (r : Rules). opened_by r file) same_rules ∙ opening.again rules file ∙ opens
+
+    certificate : AreCertificate (in_force rules) bytes
+    certificate = record { value = p.certificate; within = its_limits; is_text = is_text; same_rules = same_rules }
 
     answered : IsAnswer file bytes accepted
     answered =
-        let back : read_certificate bytes ≡ Ok p.certificate = ap read_certificate p.is_text ∙ texts.reads_back p.certificate its_limits in
+        let later : HasVersionUnder o.rules p.certificate = λ fine. p.is_prepared.version ∙ version_under o.rules p.certificate.entries fine in
+        let back : read_certificate bytes ≡ Ok p.certificate = ap read_certificate p.is_text ∙ texts.reads_back o.rules p.certificate its_limits later in
         let fitting = preparation.fits p.certificate o p.content width height p.is_prepared p.unstopped in
         let answer : RecordsAnswer o (record_bytes o.format file) p.certificate accepted = record { content = p.content; of_records = p.of_records; answers = (answers.fits p.content o p.certificate).1 fitting } in
-        file_answer file bytes (record_bytes o.format file) o p.certificate accepted opens back refl answer
+        file_answer file bytes (record_bytes o.format file) o p.certificate accepted opens_again back refl answer
 
-  by_opened : (file bytes : List ℕ) (width height : ℕ) → IsSurfaceSide width → IsSurfaceSide height → AreBytes file → (found : Result OpenedValue Fault) → opened file ≡ found → PreparesIfOpened found file width height bytes
-      → AreCertificate bytes × IsAnswer file bytes accepted
-  by_opened file bytes width height wide high are (Err fault) opens p = absurd p
-  by_opened file bytes width height wide high are (Ok o) opens p = (certificate file bytes width height wide high o opens are p, answered file bytes width height wide high o opens are p)
+  by_opened : (rules : Rules) (file bytes : List ℕ) (width height : ℕ) → IsSurfaceSide width → IsSurfaceSide height → AreBytes file → (found : Result OpenedValue Fault) → opened_by rules file ≡ found → PreparesIfOpened found file width height bytes
+      → AreCertificate (in_force rules) bytes × IsAnswer file bytes accepted
+  by_opened rules file bytes width height wide high are (Err fault) opens p = absurd p
+  by_opened rules file bytes width height wide high are (Ok o) opens p = (certificate rules file bytes width height wide high o opens are p, answered rules file bytes width height wide high o opens are p)
 
-  by_bound : (file bytes : List ℕ) (width height : ℕ) → AreBytes file → (test : Bool) → is_bound width height ≡ test → PreparesWithin test file width height bytes → AreCertificate bytes × IsAnswer file bytes accepted
-  by_bound file bytes width height are false e p = absurd p
-  by_bound file bytes width height are true e p =
+  by_bound : (rules : Rules) (file bytes : List ℕ) (width height : ℕ) → AreBytes file → (test : Bool) → is_bound width height ≡ test → PreparesWithin test rules file width height bytes → AreCertificate (in_force rules) bytes × IsAnswer file bytes accepted
+  by_bound rules file bytes width height are false e p = absurd p
+  by_bound rules file bytes width height are true e p =
       let dimensions = and_parts (is_surface_side width) (is_surface_side height) e in
-      by_opened file bytes width height (surface_side_true width dimensions.0) (surface_side_true height dimensions.1) are (opened file) refl p
+      by_opened rules file bytes width height (surface_side_true width dimensions.0) (surface_side_true height dimensions.1) are (opened_by rules file) refl p
 
-  exists : (file : List ℕ) (width height : ℕ) (image : Image) → IsTrue (is_bound width height) → Shows file width height image → HasPrepared file width height
-  exists file width height image bound shows =
+  exists : (rules : Rules) (file : List ℕ) (width height : ℕ) (image : Image) → IsTrue (is_bound width height) → Shows rules file width height image → HasPrepared rules file width height
+  exists rules file width height image bound shows =
       let run = shows.ends in
       let o = run.headers in
       let made = least_certificate run.content o width height in
-      let records : PreparesRecords o (record_bytes o.format file) width height (certificate_text made) =
+      let records : PreparesRecords o (record_bytes o.format file) width height (certificate_text o.rules made) =
       record { content = run.content; of_records = run.of_file.records; unstopped = run.unstopped; certificate = made; is_prepared = is_prepared boxes run.content o width height; is_text = refl } in
-      let it : Prepares file width height (certificate_text made) = rw (bound, run.of_file.opens) records in
-      record { bytes = certificate_text made; prepared = it }
+      let it : Prepares rules file width height (certificate_text o.rules made) = rw (bound, run.of_file.opens) records in
+      record { bytes = certificate_text o.rules made; prepared = it }
 
   pub prepared_laws : PreparedLaws
   prepared_laws = record {
     exists = exists;
-    within = λ file bytes width height are p. (by_bound file bytes width height are (is_bound width height) refl p).0;
-    accepts = λ file bytes width height are p. (by_bound file bytes width height are (is_bound width height) refl p).1;
+    within = λ rules file bytes width height are p. (by_bound rules file bytes width height are (is_bound width height) refl p).0;
+    accepts = λ rules file bytes width height are p. (by_bound rules file bytes width height are (is_bound width height) refl p).1;
   }

@@ -12,7 +12,7 @@ use Rattle.dc_stack.specs.State.{State}
 use Rattle.preflight_cert.specs.Checked.{checked, left_over}
 use Rattle.preflight_cert.specs.NextStep.{ReportsBroken, ReportsRejectedStep}
 use Rattle.preflight_cert.specs.Refusal.{IsWantOfMemory, ReportsStop, number_reported}
-use Rattle.preflight_cert.specs.Stop.{Stop, broken_after, stop_at, stopped}
+use Rattle.preflight_cert.specs.Stop.{Stop, end_of, stop_at, stopped}
 use Rattle.preflight_cert.specs.declared.certificate_entry.Entry.{Entry}
 use Rattle.preflight_cert.specs.declared.refusal.Refusal.{Refusal}
 
@@ -52,47 +52,47 @@ gathering_rejected whole after left rest step m fault r order begins rejected nu
 ]
 
 -- where records break of which these are left, so many having come before
-broken_here : (whole left : Content) (before : ℕ) (fault : RecordFault) → left ≡ broken_by fault → before + length left.steps ≡ length whole.steps → left.fault ≡ whole.fault
-    → broken_after (length whole.steps) whole.fault ≡ Some (stop_at before fault)
-broken_here whole left before fault is count same =
+broken_here : (start : State) (whole left : Content) (before : ℕ) (fault : RecordFault) → left ≡ broken_by fault → before + length left.steps ≡ length whole.steps → left.fault ≡ whole.fault
+    → end_of whole start ≡ Some (stop_at before fault)
+broken_here start whole left before fault is count same =
     let none : length left.steps ≡ 0 = ap (λ (c : Content). length c.steps) is in
     let all : length whole.steps ≡ before = omega (arith, none, count) in
     let there : whole.fault ≡ Some fault = sym same ∙ ap (λ (c : Content). c.fault) is in
     rw (all, there) refl
 
-gathering_broken : (stop : Option Stop) (whole left : Content) (before : ℕ) (state : State) (s : Surface) (fault : RecordFault) (r : Refusal)
-    → stop ≡ stopped left.steps (broken_after (length whole.steps) whole.fault) state s → left ≡ broken_by fault → before + length left.steps ≡ length whole.steps → left.fault ≡ whole.fault
+gathering_broken : (start : State) (stop : Option Stop) (whole left : Content) (before : ℕ) (state : State) (s : Surface) (fault : RecordFault) (r : Refusal)
+    → stop ≡ stopped left.steps (end_of whole start) state s → left ≡ broken_by fault → before + length left.steps ≡ length whole.steps → left.fault ≡ whole.fault
     → r.number ≡ Some before → r.fault ≡ Record fault → ReportsStop stop r
-gathering_broken stop whole left before state s fault r order is count same number by = record {
+gathering_broken start stop whole left before state s fault r order is count same number by = record {
   at = stop_at before fault;
-  stops = order ∙ ap (λ (c : Content). stopped c.steps (broken_after (length whole.steps) whole.fault) state s) is ∙ broken_here whole left before fault is count same;
+  stops = order ∙ ap (λ (c : Content). stopped c.steps (end_of whole start) state s) is ∙ broken_here start whole left before fault is count same;
   number = number;
   fault = by;
 }
 
-check_broken : (stop : Option Stop) (whole left : Content) (before : ℕ) (state : State) (s : Surface) (entries : List Entry) (fault : RecordFault) (r : Refusal)
-    → stop ≡ checked left.steps (broken_after (length whole.steps) whole.fault) (length whole.steps) state s entries → left ≡ broken_by fault → before + length left.steps ≡ length whole.steps
+check_broken : (start : State) (stop : Option Stop) (whole left : Content) (before : ℕ) (state : State) (s : Surface) (entries : List Entry) (fault : RecordFault) (r : Refusal)
+    → stop ≡ checked left.steps (end_of whole start) (length whole.steps) state s entries → left ≡ broken_by fault → before + length left.steps ≡ length whole.steps
     → left.fault ≡ whole.fault → r.number ≡ Some before → r.fault ≡ Record fault → ReportsStop stop r
-check_broken stop whole left before state s entries fault r order is count same number by = record {
+check_broken start stop whole left before state s entries fault r order is count same number by = record {
   at = stop_at before fault;
   stops =
-      order ∙ ap (λ (c : Content). checked c.steps (broken_after (length whole.steps) whole.fault) (length whole.steps) state s entries) is
-      ∙ ap (λ (b : Option Stop). option_or b (left_over (length whole.steps) entries)) (broken_here whole left before fault is count same);
+      order ∙ ap (λ (c : Content). checked c.steps (end_of whole start) (length whole.steps) state s entries) is
+      ∙ ap (λ (b : Option Stop). option_or b (left_over (length whole.steps) entries)) (broken_here start whole left before fault is count same);
   number = number;
   fault = by;
 }
 
 -- so the refusal of what is played next tells where the whole stops
-module _ (stop : Option Stop) (whole left : Content) (before : ℕ) (m : MachineState) (r : Refusal) (count : before + length left.steps ≡ length whole.steps) (same : left.fault ≡ whole.fault)
+module _ (start : State) (stop : Option Stop) (whole left : Content) (before : ℕ) (m : MachineState) (r : Refusal) (count : before + length left.steps ≡ length whole.steps) (same : left.fault ≡ whole.fault)
     (rejected : ReportsBroken left before r ⊎ ReportsRejectedStep left m r) where
-  pub check_stops : (entries : List Entry) → stop ≡ checked left.steps (broken_after (length whole.steps) whole.fault) (length whole.steps) m.state m.surface entries → ReportsStop stop r ⊎ IsWantOfMemory r
+  pub check_stops : (entries : List Entry) → stop ≡ checked left.steps (end_of whole start) (length whole.steps) m.state m.surface entries → ReportsStop stop r ⊎ IsWantOfMemory r
   check_stops entries order = elim rejected [
-    | inl h ↦ inl (check_broken stop whole left before m.state m.surface entries h.fault r order h.broken count same h.number h.reported)
-    | inr h ↦ check_rejected stop (broken_after (length whole.steps) whole.fault) (length whole.steps) left h.rest h.step m entries h.fault r order h.first h.rejected h.number h.reported
+    | inl h ↦ inl (check_broken start stop whole left before m.state m.surface entries h.fault r order h.broken count same h.number h.reported)
+    | inr h ↦ check_rejected stop (end_of whole start) (length whole.steps) left h.rest h.step m entries h.fault r order h.first h.rejected h.number h.reported
   ]
 
-  pub gathering_stops : stop ≡ stopped left.steps (broken_after (length whole.steps) whole.fault) m.state m.surface → ReportsStop stop r ⊎ IsWantOfMemory r
+  pub gathering_stops : stop ≡ stopped left.steps (end_of whole start) m.state m.surface → ReportsStop stop r ⊎ IsWantOfMemory r
   gathering_stops order = elim rejected [
-    | inl h ↦ inl (gathering_broken stop whole left before m.state m.surface h.fault r order h.broken count same h.number h.reported)
-    | inr h ↦ gathering_rejected stop (broken_after (length whole.steps) whole.fault) left h.rest h.step m h.fault r order h.first h.rejected h.number h.reported
+    | inl h ↦ inl (gathering_broken start stop whole left before m.state m.surface h.fault r order h.broken count same h.number h.reported)
+    | inr h ↦ gathering_rejected stop (end_of whole start) left h.rest h.step m h.fault r order h.first h.rejected h.number h.reported
   ]

@@ -1,5 +1,5 @@
 -- What holds at one size holds at each that is no larger.
-use Rattle.std.proofs.Common.{◌≡◌, ◌≤◌, List, [], ◌∷◌, length, Option, None, refl, arith}
+use Rattle.std.proofs.Common.{◌≡◌, ◌≤◌, List, [], ◌∷◌, Option, None, refl, arith}
 use Rattle.mapping.specs.PlacingLaws.{IsNoLarger, ShowsFrame}
 use Rattle.mapping.specs.Surface.{Surface}
 use Rattle.draw_ops.specs.Content.{StepValue}
@@ -10,7 +10,7 @@ use Rattle.preflight_cert.specs.DrawingBoxLaws.{DrawingBoxLaws}
 use Rattle.preflight_cert.specs.Drawings.{NumberedDrawing}
 use Rattle.preflight_cert.specs.Entries.{AreCovered, budget_of}
 use Rattle.preflight_cert.specs.SizeLaws.{SizeLaws}
-use Rattle.preflight_cert.specs.Stop.{Stop, broken_after, stopped}
+use Rattle.preflight_cert.specs.Stop.{Stop, end_of, stopped}
 use Rattle.preflight_cert.specs.Writes.{writes_after}
 use Rattle.preflight_cert.specs.declared.certificate_entry.Entry.{Entry}
 use Rattle.preflight_cert.proofs.StopLemmas.{none_here, none_later}
@@ -33,6 +33,6 @@ module _ (faults : FaultLaws) (boxes : DrawingBoxLaws) (smaller larger : Surface
 
 pub size_laws : FaultLaws → DrawingBoxLaws → SizeLaws
 size_laws faults boxes = record {
-  unstopped = λ content state smaller larger shows no_larger h. unstopped faults boxes smaller larger shows no_larger content.steps (broken_after (length content.steps) content.fault) state h;
+  unstopped = λ content state smaller larger shows no_larger h. unstopped faults boxes smaller larger shows no_larger content.steps (end_of content state) state h;
   few = λ drawings entries smaller larger shows no_larger covered. few faults boxes smaller larger shows no_larger drawings entries covered;
 }

@@ -1,9 +1,12 @@
 -- The parts of a certificate's text, one behind another, are the whole.
-use Rattle.std.proofs.Common.{◌≡◌, ℕ, List, [], ◌++◌, refl, ap, ◌∙◌}
+use Rattle.std.proofs.Common.{◌≡◌, ℕ, Bool, true, false, if◌then◌else◌, List, [], ◌++◌, refl, ap, ◌∙◌}
 use Rattle.std.proofs.lemmas.List.{append_assoc}
-use Rattle.preflight_cert.specs.CertificateReading.{mark_of}
-use Rattle.preflight_cert.specs.CertificateText.{HeadValue, mark_text, number_text, text_with}
-use Rattle.preflight_cert.specs.TextParts.{bound_text, totals_text}
+use Rattle.std.specs.Prelude.{codes}
+use Rattle.draw_ops.specs.RuleSets.{has_fine_plane}
+use Rattle.draw_ops.specs.declared.rules.Rules.{Rules}
+use Rattle.preflight_cert.specs.CertificateReading.{mark_of, print_mark}
+use Rattle.preflight_cert.specs.CertificateText.{HeadValue, allowed_number, mark_text, number_text, signature_text, text_with}
+use Rattle.preflight_cert.specs.TextParts.{bound_text, signature_numbers, totals_text}
 use Rattle.preflight_cert.specs.declared.version.Version.{Version}
 use Rattle.preflight_cert.specs.declared.version.Version.TheVariants.{Mpc1, Mpc2}
 
@@ -13,10 +16,25 @@ unfolding mark_of
 number_is_mark Mpc1 = refl
 number_is_mark Mpc2 = refl
 
-parts_are : (version : Version) (head : HeadValue) (count : ℕ) (after : List ℕ)
-    → bound_text version head.max_width head.max_height ++ (totals_text head.writes head.needs count ++ after) ≡ text_with version head count after
-parts_are version head count after =
-    ap (λ (mark : List ℕ). mark ++ (number_text head.max_width ++ (number_text head.max_height ++ (totals_text head.writes head.needs count ++ after)))) (number_is_mark version)
+-- so is that of the print profile, behind which stands what is allowed
+print_is_mark : number_text print_mark ≡ codes "MPC3"
+unfolding print_mark
+print_is_mark = refl
+
+numbers_are_signature : (rules : Rules) (version : Version) → signature_numbers rules version ≡ signature_text rules version
+numbers_are_signature rules version = by_profile (has_fine_plane rules)
+  where
+    by_profile : (fine : Bool) → (if fine then number_text print_mark ++ number_text (allowed_number rules.allowed) else number_text (mark_of version))
+        ≡ (if fine then codes "MPC3" ++ number_text (allowed_number rules.allowed) else mark_text version)
+    by_profile true = ap (λ (mark : List ℕ). mark ++ number_text (allowed_number rules.allowed)) print_is_mark
+    by_profile false = number_is_mark version
+
+parts_are : (rules : Rules) (version : Version) (head : HeadValue) (count : ℕ) (after : List ℕ)
+    → bound_text rules version head.max_width head.max_height ++ (totals_text head.writes head.needs count ++ after) ≡ text_with rules version head count after
+parts_are rules version head count after =
+    append_assoc (signature_numbers rules version) (number_text head.max_width ++ number_text head.max_height) (totals_text head.writes head.needs count ++ after)
+    ∙ ap (λ (mark : List ℕ). mark ++ (number_text head.max_width ++ (number_text head.max_height ++ (totals_text head.writes head.needs count ++ after))))
+    (numbers_are_signature rules version)
 
 -- three parts, each put behind the text
 three_parts : (start first second third : List ℕ) (middle next : List ℕ) → middle ≡ start ++ first → next ≡ middle ++ second
@@ -24,9 +42,9 @@ three_parts : (start first second third : List ℕ) (middle next : List ℕ) →
 three_parts start first second third middle next e f = rw (f, e) (append_assoc (start ++ first) second third ∙ append_assoc start first (second ++ third))
 
 -- the parts of a certificate's text, each put behind the others
-pub parts_with : (version : Version) (head : HeadValue) (count : ℕ) (after : List ℕ) (first second whole : List ℕ)
-    → first ≡ bound_text version head.max_width head.max_height → second ≡ first ++ totals_text head.writes head.needs count → whole ≡ second ++ after
-    → whole ≡ text_with version head count after
-parts_with version head count after first second whole e f g =
-    g ∙ three_parts [] (bound_text version head.max_width head.max_height) (totals_text head.writes head.needs count) after first second e f
-    ∙ parts_are version head count after
+pub parts_with : (rules : Rules) (version : Version) (head : HeadValue) (count : ℕ) (after : List ℕ) (first second whole : List ℕ)
+    → first ≡ bound_text rules version head.max_width head.max_height → second ≡ first ++ totals_text head.writes head.needs count → whole ≡ second ++ after
+    → whole ≡ text_with rules version head count after
+parts_with rules version head count after first second whole e f g =
+    g ∙ three_parts [] (bound_text rules version head.max_width head.max_height) (totals_text head.writes head.needs count) after first second e f
+    ∙ parts_are rules version head count after

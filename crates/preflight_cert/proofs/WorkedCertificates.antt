@@ -1,12 +1,15 @@
 -- The certificate of one triangle, byte by byte, and what bytes next to it are refused by; and one of a wide line, with its nib.
-use Rattle.std.proofs.Common.{◌≡◌, ℕ, pos, List, [], ◌∷◌, ◌++◌, take, Ok, Err, refl}
+use Rattle.std.proofs.Common.{◌≡◌, ℕ, pos, Bool, true, false, List, [], ◌∷◌, ◌++◌, take, Ok, Err, refl}
 use Rattle.std.specs.Prelude.{codes}
 use Rattle.mapping.specs.declared.nib.Nib.{Nib}
 use Rattle.draw_ops.specs.declared.fault.Fault.TheVariants.{BadBound, NotCertificate, ShortCertificate, TrailingBytes}
+use Rattle.draw_ops.specs.RuleSets.{core_rules}
+use Rattle.draw_ops.specs.declared.rules.Profile.TheVariants.{Print}
+use Rattle.draw_ops.specs.declared.rules.Rules.{Rules}
 use Rattle.dc_stack.specs.Drawing.{edge_limit}
 use Rattle.dc_stack.specs.Path.{piece_limit}
 use Rattle.span_fill.specs.WideStrokes.{one_pixel}
-use Rattle.preflight_cert.specs.CertificateReading.{CertificateValue, entry_limit, mark_of, read_certificate}
+use Rattle.preflight_cert.specs.CertificateReading.{CertificateValue, entry_limit, mark_of, print_mark, read_certificate, rules_in}
 use Rattle.preflight_cert.specs.CertificateText.{certificate_text}
 use Rattle.preflight_cert.specs.declared.version.Version.{Version}
 use Rattle.preflight_cert.specs.declared.version.Version.TheVariants.{Mpc1, Mpc2}
@@ -40,37 +43,37 @@ abbrev bytes : List ℕ
 bytes = bytes_with (0x4d ∷ 0x50 ∷ 0x43 ∷ 0x31 ∷ []) 4
 
 -- it is written so, and read back
-triangle_text : certificate_text triangle ≡ bytes
+triangle_text : certificate_text core_rules triangle ≡ bytes
 triangle_text = refl
 
 triangle_read : read_certificate bytes ≡ Ok triangle
-unfolding mark_of edge_limit piece_limit entry_limit
+unfolding mark_of print_mark edge_limit piece_limit entry_limit
 triangle_read = refl
 
 -- one byte less, and one more
 short_text : read_certificate (take 59 bytes) ≡ Err ShortCertificate
-unfolding mark_of edge_limit piece_limit entry_limit
+unfolding mark_of print_mark edge_limit piece_limit entry_limit
 short_text = refl
 
 short_head : read_certificate (take 39 bytes) ≡ Err ShortCertificate
-unfolding mark_of
+unfolding mark_of print_mark
 short_head = refl
 
 trailing_byte : read_certificate (bytes ++ 0 ∷ []) ≡ Err TrailingBytes
-unfolding mark_of edge_limit piece_limit entry_limit
+unfolding mark_of print_mark edge_limit piece_limit entry_limit
 trailing_byte = refl
 
 -- a side of 0, the later version's mark, whose entry takes four bytes more, and another mark
 no_height : read_certificate (bytes_with (codes "MPC1") 0) ≡ Err BadBound
-unfolding mark_of
+unfolding mark_of print_mark
 no_height = refl
 
 later_mark : read_certificate (bytes_with (codes "MPC2") 4) ≡ Err ShortCertificate
-unfolding mark_of edge_limit piece_limit entry_limit
+unfolding mark_of print_mark edge_limit piece_limit entry_limit
 later_mark = refl
 
-other_mark : read_certificate (bytes_with (codes "MPC3") 4) ≡ Err NotCertificate
-unfolding mark_of
+other_mark : read_certificate (bytes_with (codes "MPC4") 4) ≡ Err NotCertificate
+unfolding mark_of print_mark
 other_mark = refl
 
 -- surfaces of at most 8 by 8, at most 21 pixels, one object, a drawing of 2 points, and one entry: the box of record 3, and a nib
@@ -97,22 +100,69 @@ abbrev wide_bytes : List ℕ
 wide_bytes = line_bytes (0x4d ∷ 0x50 ∷ 0x43 ∷ 0x32 ∷ []) (3 ∷ 0 ∷ 3 ∷ 0 ∷ [])
 
 -- a nib of three columns and three rows is written so, and read back
-wide_text : certificate_text wide_line ≡ wide_bytes
+wide_text : certificate_text core_rules wide_line ≡ wide_bytes
 wide_text = refl
 
 wide_read : read_certificate wide_bytes ≡ Ok wide_line
-unfolding mark_of edge_limit piece_limit entry_limit
+unfolding mark_of print_mark edge_limit piece_limit entry_limit
 wide_read = refl
 
 -- one without a column is refused
 no_column : read_certificate (line_bytes (codes "MPC2") (0 ∷ 0 ∷ 3 ∷ 0 ∷ [])) ≡ Err BadBound
-unfolding mark_of edge_limit piece_limit entry_limit
+unfolding mark_of print_mark edge_limit piece_limit entry_limit
 no_column = refl
 
 -- in the earlier version the line has no nib of its own
 thin_read : read_certificate (line_bytes (codes "MPC1") []) ≡ Ok (line_with Mpc1 one_pixel)
-unfolding mark_of edge_limit piece_limit entry_limit
+unfolding mark_of print_mark edge_limit piece_limit entry_limit
 thin_read = refl
 
-thin_text : certificate_text (line_with Mpc1 one_pixel) ≡ line_bytes (codes "MPC1") []
+thin_text : certificate_text core_rules (line_with Mpc1 one_pixel) ≡ line_bytes (codes "MPC1") []
 thin_text = refl
+
+-- the same under the print profile, with what is allowed, and the rules that are read
+abbrev fine_bytes : ℕ → List ℕ
+fine_bytes allowed =
+    0x4d ∷ 0x50 ∷ 0x43 ∷ 0x33 ∷ [] ++ small allowed ++ small 4 ++ small 4 ++ 32 ∷ 0 ∷ 0 ∷ 0 ∷ 0 ∷ 0 ∷ 0 ∷ 0 ∷ small 0 ++ small 0 ++ small 3 ++ small 0 ++ small 1
+    ++ small 0 ++ small 0 ++ small 0 ++ 0 ∷ 64 ∷ 0 ∷ 0 ∷ 0 ∷ 64 ∷ 0 ∷ 0 ∷ 1 ∷ 0 ∷ 1 ∷ 0 ∷ []
+
+abbrev fine_triangle : CertificateValue
+fine_triangle = record {
+  version = Mpc2;
+  max_width = 4;
+  max_height = 4;
+  writes = 32;
+  needs = record { depth = 0; slots = 0; edges = 3; pieces = 0 };
+  entries = record { number = 0; bounds = record { l = pos 0; t = pos 0; r = pos 16384; b = pos 16384 }; nib = one_pixel } ∷ [];
+}
+
+abbrev print_rules : Bool → Bool → Rules
+print_rules held emf = record { profile = Print; allowed = record { held_deletion = held; emf_plus = emf } }
+
+fine_read : read_certificate (fine_bytes 0) ≡ Ok fine_triangle
+unfolding mark_of print_mark edge_limit piece_limit entry_limit
+fine_read = refl
+
+fine_text : certificate_text (print_rules true true) fine_triangle ≡ fine_bytes 3
+fine_text = refl
+
+all_allowed : rules_in (fine_bytes 3) ≡ print_rules true true
+unfolding print_mark
+all_allowed = refl
+
+held_allowed : rules_in (fine_bytes 1) ≡ print_rules true false
+unfolding print_mark
+held_allowed = refl
+
+core_rules_read : rules_in bytes ≡ core_rules
+unfolding print_mark
+core_rules_read = refl
+
+-- what no number allows, and a head that is cut short
+too_much_allowed : read_certificate (fine_bytes 4) ≡ Err BadBound
+unfolding mark_of print_mark
+too_much_allowed = refl
+
+short_fine_head : read_certificate (take 43 (fine_bytes 0)) ≡ Err ShortCertificate
+unfolding mark_of print_mark
+short_fine_head = refl

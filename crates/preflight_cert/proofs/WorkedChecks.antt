@@ -15,6 +15,7 @@ use Rattle.draw_ops.specs.declared.record_fault.RecordFault.TheVariants.{BoxTooS
 use Rattle.object_tables.specs.Table.{by_lowest_free}
 use Rattle.dc_stack.specs.Drawing.{edge_limit}
 use Rattle.dc_stack.specs.Path.{piece_limit}
+use Rattle.draw_ops.specs.RuleSets.{core_rules}
 use Rattle.dc_stack.specs.State.{State, start_state}
 use Rattle.span_fill.specs.WideStrokes.{one_pixel}
 use Rattle.preflight_cert.specs.Checked.{check_of}
@@ -28,7 +29,7 @@ abbrev at : ℤ → ℤ → Point
 at x y = record { x = x; y = y }
 
 abbrev start : State
-start = start_state (unscaled_map (at (pos 0) (pos 0))) by_lowest_free
+start = start_state core_rules (unscaled_map (at (pos 0) (pos 0))) by_lowest_free
 
 abbrev step : ℕ → Operation → StepValue
 step number operation = record { number = number; operation = operation; notes = no_notes }

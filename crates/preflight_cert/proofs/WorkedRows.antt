@@ -19,6 +19,7 @@ use Rattle.preflight_cert.specs.Drawings.{drawings_of}
 use Rattle.dc_stack.specs.Clip.{ClipValue, in_clip}
 use Rattle.raster_ops.specs.RasterOps.{mixed_colour}
 use Rattle.object_tables.specs.Table.{by_lowest_free}
+use Rattle.draw_ops.specs.RuleSets.{core_rules}
 use Rattle.dc_stack.specs.State.{State, start_state}
 use Rattle.preflight_cert.specs.Stop.{stop_at, stop_of}
 use Rattle.preflight_cert.specs.Writes.{writes_after}
@@ -58,7 +59,7 @@ palette_dot = refl
 
 -- the box (0, 0, 4, 4), shown on a surface of 2 by 2
 abbrev start : State
-start = start_state (placeable_map (record { x = pos 0; y = pos 0 }) (record { x = pos 4; y = pos 4 })) by_lowest_free
+start = start_state core_rules (placeable_map (record { x = pos 0; y = pos 0 }) (record { x = pos 4; y = pos 4 })) by_lowest_free
 
 abbrev two_by_two : Surface
 two_by_two = record { width = 2; height = 2; frame_width = 4; frame_height = 4 }

@@ -1,5 +1,5 @@
 -- The state, the greatest needs and the number of notes after some steps, on any surface.
-use Rattle.std.specs.Prelude.{ℕ, List, [], ◌∷◌}
+use Rattle.std.specs.Prelude.{ℕ, Bool, if◌then◌else◌, List, [], ◌∷◌}
 use Rattle.draw_ops.specs.Content.{Content, StepValue}
 use Rattle.draw_ops.specs.NoteCounts.{added_notes}
 use Rattle.dc_stack.specs.Needs.{greater_needs, needs_of, no_needs}
@@ -7,6 +7,8 @@ use Rattle.dc_stack.specs.Next.{next}
 use Rattle.dc_stack.specs.State.{State, start_of}
 use Rattle.dc_stack.specs.declared.needs.Needs.{Needs}
 use Rattle.meta_headers.specs.Headers.{OpenedValue}
+use Rattle.preflight_cert.specs.EmfPlus.{uses_emf_plus}
+use Rattle.preflight_cert.specs.declared.uses.Uses.{Uses}
 
 -- the state after the steps
 abbrev pub state_after : List StepValue → State → State
@@ -30,3 +32,15 @@ file_needs content o = needs_after content.steps (start_of o) no_needs
 -- the number of notes of each kind, of a file's headers and records
 abbrev pub file_notes : Content → OpenedValue → List ℕ
 file_notes content o = notes_after content.steps o.notes
+
+-- so many deletions of selected objects, and EMF+ without a drawing once or not at all
+abbrev pub counted_uses : ℕ → Bool → Uses
+counted_uses deletions is_alone = record { held_deletion = deletions; emf_plus = if is_alone then 1 else 0 }
+
+-- how often the steps use what rules can allow
+abbrev pub uses_after : List StepValue → State → Uses
+uses_after steps state = counted_uses (state_after steps state).held_deletions (uses_emf_plus steps state)
+
+-- the same for a file's records
+abbrev pub file_uses : Content → OpenedValue → Uses
+file_uses content o = uses_after content.steps (start_of o)

@@ -6,12 +6,14 @@ use Rattle.draw_ops.specs.Content.{Content}
 use Rattle.draw_ops.specs.ExactlyOne.{ExactlyOne}
 use Rattle.draw_ops.specs.declared.fault.Fault.{Fault}
 use Rattle.draw_ops.specs.declared.fault.Fault.TheVariants.{BudgetTooSmall, NeedTooSmall, Record}
+use Rattle.draw_ops.specs.declared.rules.Rules.{Rules}
 use Rattle.meta_headers.specs.Headers.{OpenedValue}
-use Rattle.meta_headers.specs.Opening.{HasContentOf, opened, record_bytes, surface_for}
+use Rattle.meta_headers.specs.Opening.{HasContentOf, record_bytes, surface_for}
+use Rattle.meta_headers.specs.OpeningRules.{opened_by}
 use Rattle.dc_stack.specs.State.{start_of}
 use Rattle.dc_stack.specs.declared.needs.Needs.{Needs}
-use Rattle.preflight_cert.specs.After.{file_needs, file_notes}
-use Rattle.preflight_cert.specs.CertificateReading.{CertificateValue, read_certificate}
+use Rattle.preflight_cert.specs.After.{file_needs, file_notes, file_uses}
+use Rattle.preflight_cert.specs.CertificateReading.{CertificateValue, read_certificate, rules_in}
 use Rattle.preflight_cert.specs.Checked.{check_of}
 use Rattle.preflight_cert.specs.Drawings.{drawings_of}
 use Rattle.preflight_cert.specs.Entries.{AreCovered, budget_of}
@@ -19,6 +21,7 @@ use Rattle.preflight_cert.specs.NeedLaws.{AreWithin}
 use Rattle.preflight_cert.specs.Run.{Run, RunWrites, rejected, shown}
 use Rattle.preflight_cert.specs.Stop.{Stop, stop_of}
 use Rattle.preflight_cert.specs.declared.refusal.Refusal.{Refusal}
+use Rattle.preflight_cert.specs.declared.uses.Uses.{Uses}
 
 -- the surface of a certificate's bound, with a file's frame
 abbrev pub bound_of : OpenedValue → CertificateValue → Surface
@@ -79,9 +82,9 @@ abbrev pub AnswersOpened : Result OpenedValue Fault → List ℕ → List ℕ �
 AnswersOpened (Err fault) file certificate answer = answer ≡ rejects None fault
 AnswersOpened (Ok o) file certificate answer = AnswersRead (read_certificate certificate) o (record_bytes o.format file) answer
 
--- this is the answer to a file and a certificate
+-- this is the answer to a file and a certificate, under the rules in that certificate
 abbrev pub IsAnswer : List ℕ → List ℕ → Answer → Type 0
-IsAnswer file certificate answer = AnswersOpened (opened file) file certificate answer
+IsAnswer file certificate answer = AnswersOpened (opened_by (rules_in certificate) file) file certificate answer
 
 -- the answer to a file and a certificate is this rejection
 abbrev pub IsRejectedWith : List ℕ → List ℕ → Refusal → Type 0
@@ -91,25 +94,26 @@ IsRejectedWith file certificate r = IsAnswer file certificate (rejects r.number 
 abbrev pub IsCleared : OpenedValue → List ℕ → CertificateValue → Type 0
 IsCleared o records c = (content : Content) → HasContentOf o.format records content → accepted ≡ answer_to content o c
 
--- for any content that the records of an opened file have, these are the number of records and the number of notes of
--- each kind
-pub record CountsRecords (o : OpenedValue) (records : List ℕ) (count : ℕ) (noted : List ℕ) : Type 0 where
+-- for any content that the records of an opened file have, these are the number of records, the number of notes of each
+-- kind, and how often what the rules allow is used
+pub record CountsRecords (o : OpenedValue) (records : List ℕ) (count : ℕ) (noted : List ℕ) (used : Uses) : Type 0 where
   pub all : (content : Content) → HasContentOf o.format records content → count ≡ length content.steps
   pub notes : (content : Content) → HasContentOf o.format records content → noted ≡ file_notes content o
+  pub uses : (content : Content) → HasContentOf o.format records content → used ≡ file_uses content o
 
 -- a run shows some image
-pub record Shows (file : List ℕ) (width height : ℕ) (image : Image) : Type 0 where
+pub record Shows (rules : Rules) (file : List ℕ) (width height : ℕ) (image : Image) : Type 0 where
   pub after : Image
-  pub ends : Run file width height image (shown after)
+  pub ends : Run rules file width height image (shown after)
 
--- On each surface of at most this size, and over each image, the run of a file has no fault, and it writes at most this
--- number of pixels.
-pub record Sound (file : List ℕ) (max_width max_height most : ℕ) : Type 0 where
-  pub shows : (width height : ℕ) (image : Image) → width ≤ max_width → height ≤ max_height → Shows file width height image
+-- On each surface of at most this size, and over each image, the run of a file under rules has no fault, and it writes at
+-- most this number of pixels.
+pub record Sound (rules : Rules) (file : List ℕ) (max_width max_height most : ℕ) : Type 0 where
+  pub shows : (width height : ℕ) (image : Image) → width ≤ max_width → height ≤ max_height → Shows rules file width height image
   pub faultless :
       (width height : ℕ) (image : Image) (number : Option ℕ) (fault : Fault) → width ≤ max_width → height ≤ max_height
-      → Run file width height image (rejected number fault) → ⊥
-  pub few : (width height writes : ℕ) → width ≤ max_width → height ≤ max_height → RunWrites file width height writes → writes ≤ most
+      → Run rules file width height image (rejected number fault) → ⊥
+  pub few : (width height writes : ℕ) → width ≤ max_width → height ≤ max_height → RunWrites rules file width height writes → writes ≤ most
 
 -- There is exactly one answer. Records are accepted exactly if the certificate fits them, and then the file is sound
 -- within its bound and writes.
@@ -117,5 +121,5 @@ pub record AnswerLaws : Type 0 where
   pub one : (file certificate : List ℕ) → ExactlyOne (IsAnswer file certificate)
   pub fits : (content : Content) (o : OpenedValue) (c : CertificateValue) → (accepted ≡ answer_to content o c) ↔ Fits c o content
   pub sound :
-      (file bytes : List ℕ) (o : OpenedValue) (c : CertificateValue) → opened file ≡ Ok o → read_certificate bytes ≡ Ok c
-      → IsAnswer file bytes accepted → Sound file c.max_width c.max_height c.writes
+      (file bytes : List ℕ) (o : OpenedValue) (c : CertificateValue) → opened_by (rules_in bytes) file ≡ Ok o
+      → read_certificate bytes ≡ Ok c → IsAnswer file bytes accepted → Sound (rules_in bytes) file c.max_width c.max_height c.writes

@@ -1,12 +1,16 @@
 -- The bytes of a certificate, and their meaning.
-use Rattle.std.specs.Prelude.{ℕ, zero, suc, ◌+◌, ◌*◌, Bool, ◌&&◌, ◌==◌, not, nat_le, nat_lt, if◌then◌else◌, List, [], ◌∷◌, length, drop, codes, Option, Some, None, Result, Ok, Err}
+use Rattle.std.specs.Prelude.{ℕ, zero, suc, ◌+◌, ◌*◌, ◌%◌, Bool, ◌&&◌, ◌==◌, not, nat_le, nat_lt, if◌then◌else◌, List, [], ◌∷◌, length, drop, codes, Option, Some, None, Result, Ok, Err}
 use Rattle.std.specs.List.{list_all}
 use Rattle.mapping.specs.Limits.{is_surface_side}
 use Rattle.mapping.specs.Nibs.{is_nib}
 use Rattle.mapping.specs.declared.nib.Nib.{Nib}
 use Rattle.point_views.specs.Numbers.{i32_at, number_at}
+use Rattle.draw_ops.specs.RuleSets.{core_rules}
 use Rattle.draw_ops.specs.declared.fault.Fault.{Fault}
 use Rattle.draw_ops.specs.declared.fault.Fault.TheVariants.{BadBound, NotCertificate, ShortCertificate, TrailingBytes}
+use Rattle.draw_ops.specs.declared.rules.Allowances.{Allowances}
+use Rattle.draw_ops.specs.declared.rules.Profile.TheVariants.{Print}
+use Rattle.draw_ops.specs.declared.rules.Rules.{Rules}
 use Rattle.dc_stack.specs.Drawing.{edge_limit}
 use Rattle.dc_stack.specs.Path.{piece_limit}
 use Rattle.dc_stack.specs.SavedStates.{depth_limit}
@@ -35,6 +39,21 @@ mark_of Mpc2 = number_at (codes "MPC2") 0 4
 abbrev pub version_of : ℕ → Option Version
 version_of n = if n == mark_of Mpc1 then Some Mpc1 else (if n == mark_of Mpc2 then Some Mpc2 else None)
 
+-- the first four bytes of a certificate of the print profile, as a number
+unfoldable pub print_mark : ℕ
+print_mark = number_at (codes "MPC3") 0 4
+
+abbrev pub is_by_print : List ℕ → Bool
+is_by_print bytes = number_at bytes 0 4 == print_mark
+
+-- what a number allows: 1 held deletions, 2 EMF+ alone, 3 both
+abbrev pub allowed_by : ℕ → Allowances
+allowed_by n = record { held_deletion = n % 2 == 1; emf_plus = nat_le 2 n }
+
+-- the rules under which a certificate was made; under the print profile what is allowed follows its first four bytes
+abbrev pub rules_in : List ℕ → Rules
+rules_in bytes = if is_by_print bytes then record { profile = Print; allowed = allowed_by (number_at bytes 4 4) } else core_rules
+
 -- the most slots of objects in a certificate
 abbrev pub slot_limit : ℕ
 slot_limit = 65535
@@ -46,6 +65,10 @@ entry_limit = 1048576
 -- the number of bytes before the entries
 abbrev pub head_size : ℕ
 head_size = 40
+
+-- the same under the print profile
+abbrev pub print_head_size : ℕ
+print_head_size = 44
 
 -- the number of bytes in an entry: a number and a box, and in the later version a nib
 abbrev pub entry_size : Version → ℕ
@@ -131,6 +154,14 @@ read_version (Some version) bytes =
     if nat_lt (length bytes) head_size then Err ShortCertificate
     else (if not (is_bounded bytes) then Err BadBound else read_whole version bytes)
 
+-- the same for a certificate of the print profile: behind what it allows it is one of the later version behind its mark
+abbrev pub read_print : List ℕ → Result CertificateValue Fault
+read_print bytes =
+    if nat_lt (length bytes) print_head_size then Err ShortCertificate
+    else (if nat_lt 3 (number_at bytes 4 4) then Err BadBound else read_version (Some Mpc2) (drop 4 bytes))
+
 -- the first fault of a certificate's bytes, or their contents
 abbrev pub read_certificate : List ℕ → Result CertificateValue Fault
-read_certificate bytes = if nat_lt (length bytes) 4 then Err NotCertificate else read_version (version_of (number_at bytes 0 4)) bytes
+read_certificate bytes =
+    if nat_lt (length bytes) 4 then Err NotCertificate
+    else (if is_by_print bytes then read_print bytes else read_version (version_of (number_at bytes 0 4)) bytes)

@@ -1,9 +1,12 @@
 -- The bytes of a certificate.
-use Rattle.std.specs.Prelude.{ℕ, List, [], ◌++◌, length, codes}
+use Rattle.std.specs.Prelude.{ℕ, ◌+◌, if◌then◌else◌, List, [], ◌++◌, length, codes}
 use Rattle.std.specs.Int.{w16, w32, w64, cast_unsigned, to_le_bytes}
 use Rattle.std.specs.List.{flat_map}
 use Rattle.mapping.specs.declared.geometry.Rect.{Rect}
 use Rattle.mapping.specs.declared.nib.Nib.{Nib}
+use Rattle.draw_ops.specs.RuleSets.{has_fine_plane}
+use Rattle.draw_ops.specs.declared.rules.Allowances.{Allowances}
+use Rattle.draw_ops.specs.declared.rules.Rules.{Rules}
 use Rattle.dc_stack.specs.declared.needs.Needs.{Needs}
 use Rattle.preflight_cert.specs.CertificateReading.{CertificateValue}
 use Rattle.preflight_cert.specs.declared.certificate_entry.Entry.{Entry}
@@ -29,7 +32,7 @@ nib_text Mpc2 nib = to_le_bytes w16 nib.x ++ to_le_bytes w16 nib.y
 abbrev pub entry_text : Version → Entry → List ℕ
 entry_text version entry = number_text entry.number ++ (box_text entry.bounds ++ nib_text version entry.nib)
 
--- the first four bytes
+-- the signature of a version
 abbrev pub mark_text : Version → List ℕ
 mark_text Mpc1 = codes "MPC1"
 mark_text Mpc2 = codes "MPC2"
@@ -47,16 +50,29 @@ pub record HeadValue : Type 0 where
   pub writes : ℕ
   pub needs : Needs
 
--- the signature, the size, the most pixels written, the needs and the number of entries, followed by the entries' bytes
-abbrev pub text_with : Version → HeadValue → ℕ → List ℕ → List ℕ
-text_with version head count entries =
-    mark_text version ++ (number_text head.max_width ++ (number_text head.max_height
-    ++ (to_le_bytes w64 head.writes ++ needs_text head.needs (number_text count ++ entries))))
+-- the size, the most pixels written, the needs and the number of entries, followed by the entries' bytes
+abbrev pub numbers_with : HeadValue → ℕ → List ℕ → List ℕ
+numbers_with head count entries =
+    number_text head.max_width ++ (number_text head.max_height
+    ++ (to_le_bytes w64 head.writes ++ needs_text head.needs (number_text count ++ entries)))
+
+-- the number of what is allowed
+abbrev pub allowed_number : Allowances → ℕ
+allowed_number allowed = (if allowed.held_deletion then 1 else 0) + (if allowed.emf_plus then 2 else 0)
+
+-- what stands before those numbers: the signature, and under the print profile what is allowed
+abbrev pub signature_text : Rules → Version → List ℕ
+signature_text rules version =
+    if has_fine_plane rules then codes "MPC3" ++ number_text (allowed_number rules.allowed) else mark_text version
+
+-- the bytes of a certificate with these numbers and the bytes of its entries
+abbrev pub text_with : Rules → Version → HeadValue → ℕ → List ℕ → List ℕ
+text_with rules version head count entries = signature_text rules version ++ numbers_with head count entries
 
 -- the numbers of a certificate
 abbrev pub head_of : CertificateValue → HeadValue
 head_of c = record { max_width = c.max_width; max_height = c.max_height; writes = c.writes; needs = c.needs }
 
--- the bytes of a certificate
-abbrev pub certificate_text : CertificateValue → List ℕ
-certificate_text c = text_with c.version (head_of c) (length c.entries) (flat_map (entry_text c.version) c.entries)
+-- the bytes of a certificate under rules
+abbrev pub certificate_text : Rules → CertificateValue → List ℕ
+certificate_text rules c = text_with rules c.version (head_of c) (length c.entries) (flat_map (entry_text c.version) c.entries)

@@ -10,7 +10,7 @@ use Rattle.dc_stack.specs.Next.{next}
 use Rattle.dc_stack.specs.OperationFault.{fault_of}
 use Rattle.dc_stack.specs.State.{State}
 use Rattle.preflight_cert.specs.Entries.{entries_after, entry_fault}
-use Rattle.preflight_cert.specs.Stop.{Stop, broken_after, stop_at, stopped_or}
+use Rattle.preflight_cert.specs.Stop.{Stop, end_of, stop_at, stopped_or}
 use Rattle.preflight_cert.specs.declared.certificate_entry.Entry.{Entry}
 
 -- the fault of a surplus entry, in the last of the records
@@ -28,5 +28,4 @@ checked (step ∷ steps) after count state s entries =
 
 -- where a content stops that is checked against entries
 abbrev pub check_of : Content → State → Surface → List Entry → Option Stop
-check_of content state s entries =
-    checked content.steps (broken_after (length content.steps) content.fault) (length content.steps) state s entries
+check_of content state s entries = checked content.steps (end_of content state) (length content.steps) state s entries

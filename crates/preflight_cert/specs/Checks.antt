@@ -2,7 +2,7 @@
 use Rattle.std.specs.Prelude.{◌≡◌, ℕ, List, length, None, Result, Ok, Err}
 use Rattle.draw_ops.specs.Content.{Content}
 use Rattle.dc_stack.specs.MachineState.{MachineState}
-use Rattle.preflight_cert.specs.After.{needs_after, notes_after}
+use Rattle.preflight_cert.specs.After.{needs_after, notes_after, uses_after}
 use Rattle.preflight_cert.specs.Checked.{check_of, left_over}
 use Rattle.preflight_cert.specs.Drawings.{drawings_of}
 use Rattle.preflight_cert.specs.Entries.{budget_of}
@@ -18,6 +18,7 @@ pub record Checks (content : Content) (old : MachineState) (entries : List Entry
   pub records : totals.records ≡ length content.steps
   pub notes : totals.notes.counts ≡ notes_after content.steps noted
   pub needs : new.needs ≡ needs_after content.steps old.state old.needs
+  pub uses : totals.uses ≡ uses_after content.steps old.state
 
 -- the error is the first fault of the steps or of the entries
 abbrev pub StopsCheck : Content → MachineState → List Entry → Refusal → Type 0

@@ -5,13 +5,13 @@ use Rattle.meta_headers.specs.OpenedOf.{opened_of}
 use Rattle.preflight_cert.specs.Answer.{CountsRecords, Sound}
 use Rattle.preflight_cert.specs.declared.cleared.Cleared.{Cleared}
 
--- the counts of a cleared file are those of its records and of its notes of each kind
+-- the counts of a cleared file are those of its records, of its notes of each kind, and of what it uses
 abbrev pub CountsItsRecords : Cleared → Type 0
-CountsItsRecords c = CountsRecords (opened_of c.opened) c.opened.records.now c.records c.notes.counts
+CountsItsRecords c = CountsRecords (opened_of c.opened) c.opened.records.now c.records c.notes.counts c.uses
 
--- The file is sound within the certificate's bound and writes.
+-- The file is sound, under the rules of its opening, within the certificate's bound and writes.
 abbrev pub IsSoundFor : List ℕ → Cleared → Type 0
-IsSoundFor file c = Sound file c.certificate.max_width c.certificate.max_height c.certificate.writes
+IsSoundFor file c = Sound c.opened.rules file c.certificate.max_width c.certificate.max_height c.certificate.writes
 
 -- a cleared file is sound in this way, for any file that it was opened from
 abbrev pub IsSoundWhereOpened : Cleared → Type 0

@@ -9,7 +9,7 @@ use Rattle.mapping.specs.declared.geometry.Rect.{Rect}
 use Rattle.draw_ops.specs.Content.{Content}
 use Rattle.dc_stack.specs.Drawing.{Drawing, drawing_nib, drawing_points}
 use Rattle.dc_stack.specs.MachineState.{MachineState}
-use Rattle.preflight_cert.specs.After.{needs_after, notes_after}
+use Rattle.preflight_cert.specs.After.{needs_after, notes_after, uses_after}
 use Rattle.preflight_cert.specs.Budget.{drawing_cells}
 use Rattle.preflight_cert.specs.DraftOf.{Adds}
 use Rattle.preflight_cert.specs.Drawings.{NumberedDrawing, drawings_of}
@@ -78,6 +78,7 @@ pub record Gathers (content : Content) (old : MachineState) (before : Draft) (no
   pub records : totals.records ≡ length content.steps
   pub notes : totals.notes.counts ≡ notes_after content.steps noted
   pub needs : new.needs ≡ needs_after content.steps old.state old.needs
+  pub uses : totals.uses ≡ uses_after content.steps old.state
 
 -- the content stops, and the error says where
 abbrev pub StopsGathering : Content → MachineState → Refusal → Type 0

@@ -9,6 +9,7 @@ pub mod Layer
 pub mod Drawings
 pub mod Writes
 pub mod Apply
+pub mod EmfPlus
 pub mod Stop
 pub mod Run
 pub mod Refusal

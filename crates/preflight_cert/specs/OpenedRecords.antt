@@ -9,10 +9,11 @@ use Rattle.preflight_cert.specs.Preparation.{PreparesRecords}
 use Rattle.preflight_cert.specs.StoppedRecords.{StopsOpened}
 use Rattle.preflight_cert.specs.declared.certificate.Certificate.{Certificate}
 use Rattle.preflight_cert.specs.declared.refusal.Refusal.{Refusal}
+use Rattle.preflight_cert.specs.declared.uses.Uses.{Uses}
 
--- these are the number of records, and the number of notes of each kind of the file
-abbrev pub CountsRecordsOf : Opened → ℕ → List ℕ → Type 0
-CountsRecordsOf opened count noted = CountsRecords (opened_of opened) opened.records.now count noted
+-- these are the number of records, the number of notes of each kind of the file, and what it uses
+abbrev pub CountsRecordsOf : Opened → ℕ → List ℕ → Uses → Type 0
+CountsRecordsOf opened count noted used = CountsRecords (opened_of opened) opened.records.now count noted used
 
 -- the answer to the records and a certificate
 abbrev pub AnswersRecordsOf : Opened → Certificate → Answer → Type 0

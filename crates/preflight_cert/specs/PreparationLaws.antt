@@ -4,9 +4,11 @@ use Rattle.mapping.specs.Boxes.{HasPoint}
 use Rattle.mapping.specs.Nibs.{CoversNib}
 use Rattle.mapping.specs.declared.geometry.Point.{Point}
 use Rattle.draw_ops.specs.Content.{Content}
+use Rattle.draw_ops.specs.declared.rules.Rules.{Rules}
 use Rattle.dc_stack.specs.State.{start_of}
 use Rattle.meta_headers.specs.Headers.{OpenedValue}
-use Rattle.meta_headers.specs.Opening.{opened, surface_for}
+use Rattle.meta_headers.specs.Opening.{surface_for}
+use Rattle.meta_headers.specs.OpeningRules.{opened_by}
 use Rattle.preflight_cert.specs.Answer.{Fits}
 use Rattle.preflight_cert.specs.CertificateReading.{CertificateValue}
 use Rattle.preflight_cert.specs.NeedLaws.{AreWithin}
@@ -45,5 +47,5 @@ pub record PreparationLaws : Type 0 where
       (c other : CertificateValue) (o : OpenedValue) (content : Content) (width height : ℕ)
       → IsPrepared c o content width height → IsPrepared other o content width height → c ≡ other
   pub least :
-      (c other : CertificateValue) (file : List ℕ) (o : OpenedValue) (content : Content) → opened file ≡ Ok o
+      (c other : CertificateValue) (rules : Rules) (file : List ℕ) (o : OpenedValue) (content : Content) → opened_by rules file ≡ Ok o
       → IsPrepared c o content other.max_width other.max_height → Fits other o content → IsNoMore c other

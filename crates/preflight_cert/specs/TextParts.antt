@@ -1,15 +1,22 @@
 -- A certificate's bytes, in the parts in which they are written.
-use Rattle.std.specs.Prelude.{ℕ, List, [], ◌++◌}
+use Rattle.std.specs.Prelude.{ℕ, if◌then◌else◌, List, [], ◌++◌}
 use Rattle.std.specs.Int.{w64, to_le_bytes}
+use Rattle.draw_ops.specs.RuleSets.{has_fine_plane}
+use Rattle.draw_ops.specs.declared.rules.Rules.{Rules}
 use Rattle.dc_stack.specs.declared.needs.Needs.{Needs}
-use Rattle.preflight_cert.specs.CertificateReading.{mark_of}
-use Rattle.preflight_cert.specs.CertificateText.{HeadValue, needs_text, number_text}
+use Rattle.preflight_cert.specs.CertificateReading.{mark_of, print_mark}
+use Rattle.preflight_cert.specs.CertificateText.{HeadValue, allowed_number, needs_text, number_text}
 use Rattle.preflight_cert.specs.declared.version.Version.{Version}
 use Rattle.preflight_cert.specs.declared.writing.Head.{Head}
 
+-- the numbers of the signature and of what is allowed
+abbrev pub signature_numbers : Rules → Version → List ℕ
+signature_numbers rules version =
+    if has_fine_plane rules then number_text print_mark ++ number_text (allowed_number rules.allowed) else number_text (mark_of version)
+
 -- the signature and the size
-abbrev pub bound_text : Version → ℕ → ℕ → List ℕ
-bound_text version max_width max_height = number_text (mark_of version) ++ (number_text max_width ++ number_text max_height)
+abbrev pub bound_text : Rules → Version → ℕ → ℕ → List ℕ
+bound_text rules version max_width max_height = signature_numbers rules version ++ (number_text max_width ++ number_text max_height)
 
 -- the most pixels written, the needs, and the number of entries
 abbrev pub totals_text : ℕ → Needs → ℕ → List ℕ
@@ -20,5 +27,5 @@ abbrev pub head_value : Head → HeadValue
 head_value head = record { max_width = head.max_width; max_height = head.max_height; writes = head.writes; needs = head.needs }
 
 -- all bytes before the entries
-abbrev pub head_text : Version → HeadValue → ℕ → List ℕ
-head_text version head count = bound_text version head.max_width head.max_height ++ totals_text head.writes head.needs count
+abbrev pub head_text : Rules → Version → HeadValue → ℕ → List ℕ
+head_text rules version head count = bound_text rules version head.max_width head.max_height ++ totals_text head.writes head.needs count

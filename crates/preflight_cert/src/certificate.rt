@@ -1,13 +1,15 @@
 //! Certificates, read in place.
 
-ghost use Rattle.std.specs.Prelude.{◌≡◌, ◌<◌, length, IfErr, Some, slice_get};
+ghost use Rattle.std.specs.Prelude.{◌≡◌, ◌<◌, length, IfErr, IfOk, Some, slice_get, true};
 ghost use Rattle.mapping.specs.Limits.{IsSurfaceSide};
 
 use crate::certificate_entry::{Entries, Entry};
-use crate::certificate_reading::{HEAD_SIZE, is_bounded, read_whole};
+use crate::certificate_reading::{
+    MARK_SIZE, MOST_ALLOWED, PRINT_HEAD_SIZE, PRINT_MARK, print_rules, read_version,
+};
 use crate::version::Version;
 use dc_stack::Needs;
-use draw_ops::Fault;
+use draw_ops::{Fault, Rules};
 use point_views::u32_at;
 
 /// A certificate of a file, for surfaces of at most this size: the most pixels that playing it writes, the memory that
@@ -18,6 +20,8 @@ use point_views::u32_at;
 /// - The width and the height are from 1 to 8,192.
 #[derive(Clone, Copy, Debug, PartialEq, Eq)]
 pub struct Certificate<'a> {
+    /// The rules by which it was made.
+    pub rules: Rules,
     pub max_width: u32,
     pub max_height: u32,
     pub writes: u64,
@@ -31,7 +35,7 @@ impl<'a> Certificate<'a> {
     ghost use Rattle.draw_ops.specs.Fault.{IsInRecord};
     ghost use Rattle.draw_ops.specs.Results.{result_map};
     ghost use Rattle.preflight_cert.specs.CertificateOf.{certificate_of};
-    ghost use Rattle.preflight_cert.specs.CertificateReading.{read_certificate};
+    ghost use Rattle.preflight_cert.specs.CertificateReading.{is_by_print, read_certificate, read_print, rules_in};
     ghost use Rattle.preflight_cert.specs.EntriesOf.{entries_of};
 
     /// Reads a certificate, or returns the first fault of its bytes:
@@ -42,24 +46,43 @@ impl<'a> Certificate<'a> {
     /// - `ShortCertificate` if entries are missing;
     /// - `TrailingBytes` if bytes follow the entries;
     /// - `BadBound` if the width or height of a nib isn't from 1 to 4,096.
+    #[tactic(auto, unfolding(crate::specs::CertificateReading::print_mark))]
     pub fn read(bytes: &'a [u8]) -> Result<Certificate<'a>, Fault>
         ensures value { read_certificate bytes.now ≡ result_map certificate_of result }
+        ensures rules { IfOk result (λ c. c.rules ≡ rules_in bytes.now) }
         ensures in_no_record { IfErr result (λ fault. IsInRecord fault → ⊥) }
         ensures no_memory { IfErr result (λ fault. fault ≡ Fault.OutOfMemory → ⊥) }
     {
         if bytes.len() < 4 {
             return Err(Fault::NotCertificate);
         }
-        let Some(version) = Version::of_mark(u32_at(bytes, 0)) else {
-            return Err(Fault::NotCertificate);
-        };
-        if bytes.len() < HEAD_SIZE {
+        if u32_at(bytes, 0) == PRINT_MARK {
+            return Certificate::read_print(bytes);
+        }
+        match Version::of_mark(u32_at(bytes, 0)) {
+            Some(version) => read_version(version, Rules::CORE, bytes),
+            None => Err(Fault::NotCertificate),
+        }
+    }
+
+    /// The same for a certificate of the print profile. Four bytes say what it allows.
+    #[tactic(auto, unfolding(crate::specs::CertificateReading::print_mark))]
+    fn read_print(bytes: &'a [u8]) -> Result<Certificate<'a>, Fault>
+        requires { is_by_print bytes.now ≡ true }
+        ensures value { read_print bytes.now ≡ result_map certificate_of result }
+        ensures rules { IfOk result (λ c. c.rules ≡ rules_in bytes.now) }
+        ensures in_no_record { IfErr result (λ fault. IsInRecord fault → ⊥) }
+        ensures no_memory { IfErr result (λ fault. fault ≡ Fault.OutOfMemory → ⊥) }
+    {
+        if bytes.len() < PRINT_HEAD_SIZE {
             return Err(Fault::ShortCertificate);
         }
-        if !is_bounded(bytes) {
+        let allowed = u32_at(bytes, 4);
+        if allowed > MOST_ALLOWED {
             return Err(Fault::BadBound);
         }
-        read_whole(version, bytes)
+        let (_, plain) = bytes.split_at(MARK_SIZE);
+        read_version(Version::Mpc2, print_rules(allowed), plain)
     }
 
     /// The number of entries.

@@ -1,27 +1,40 @@
 //! The parts of a certificate's bytes.
 
-ghost use Rattle.std.specs.Prelude.{◌≡◌, ◌<◌, ◌≤◌, ◌+◌, ◌*◌, length, IfErr, IsTrue, nat_le};
+ghost use Rattle.std.specs.Prelude.{◌≡◌, ◌<◌, ◌≤◌, ◌+◌, ◌*◌, length, IfErr, IfOk, IsTrue, Some, nat_le};
 ghost use Rattle.mapping.specs.Limits.{IsSurfaceSide, is_surface_side};
 ghost use Rattle.point_views.specs.Numbers.{number_at};
 ghost use Rattle.draw_ops.specs.Fault.{IsInRecord};
+ghost use Rattle.draw_ops.specs.declared.rules.Profile.TheVariants.{Print};
 ghost use Rattle.draw_ops.specs.Results.{result_map};
 ghost use Rattle.dc_stack.specs.Drawing.{edge_limit};
 ghost use Rattle.dc_stack.specs.Path.{piece_limit};
 ghost use Rattle.preflight_cert.specs.CertificateOf.{certificate_of};
 ghost use Rattle.preflight_cert.specs.EntriesOf.{entries_of};
-ghost use Rattle.preflight_cert.specs.CertificateReading.{are_bounded_needs, count_in, entry_limit, entry_size, have_nibs, head_size, is_bounded, needs_in, read_whole};
+ghost use Rattle.preflight_cert.specs.CertificateReading.{allowed_by, are_bounded_needs, count_in, entry_limit, entry_size, have_nibs, head_size, is_bounded, needs_in, read_version, read_whole};
 
 use crate::certificate::Certificate;
 use crate::certificate_entry::Entries;
 use crate::version::Version;
 use byteorder::{ByteOrder, LittleEndian};
 use dc_stack::{MAX_PIECES, MAX_SAVED_STATES, Needs};
-use draw_ops::Fault;
+use draw_ops::{Allowances, Fault, Profile, Rules};
 use mapping::MAX_SURFACE_SIDE;
 use point_views::u32_at;
 
 /// The number of bytes before the entries.
 pub(crate) const HEAD_SIZE: usize = 40;
+
+/// The number of bytes before what a certificate of the print profile allows: `MPC3`.
+pub(crate) const MARK_SIZE: usize = 4;
+
+/// The number of bytes before the entries of a certificate of the print profile.
+pub(crate) const PRINT_HEAD_SIZE: usize = MARK_SIZE + HEAD_SIZE;
+
+/// The first four bytes of a certificate of the print profile, as a number.
+pub(crate) const PRINT_MARK: u32 = 0x3343_504d;
+
+/// The greatest number of what a certificate allows.
+pub(crate) const MOST_ALLOWED: u32 = 3;
 
 /// The most slots of objects in a certificate.
 const MAX_NEEDED_SLOTS: u32 = 65_535;
@@ -86,12 +99,46 @@ pub(crate) fn is_side(side: u32) -> bool
     1 <= side && side <= MAX_SURFACE_SIDE
 }
 
+/// The contents of a certificate of this version, or the first fault of the bytes after its mark.
+pub(crate) fn read_version(
+    version: Version,
+    rules: Rules,
+    bytes: &[u8],
+) -> Result<Certificate<'_>, Fault>
+    ensures value { read_version (Some version) bytes.now ≡ result_map certificate_of result }
+    ensures rules { IfOk result (λ c. c.rules ≡ rules) }
+    ensures in_no_record { IfErr result (λ fault. IsInRecord fault → ⊥) }
+    ensures no_memory { IfErr result (λ fault. fault ≡ Fault.OutOfMemory → ⊥) }
+{
+    if bytes.len() < HEAD_SIZE {
+        return Err(Fault::ShortCertificate);
+    }
+    if !is_bounded(bytes) {
+        return Err(Fault::BadBound);
+    }
+    read_whole(version, rules, bytes)
+}
+
+/// The rules of the print profile that allow what a number says.
+pub(crate) fn print_rules(allowed: u32) -> Rules
+    ensures { result ≡ record { profile = Print; allowed = allowed_by allowed } }
+{
+    Rules {
+        profile: Profile::Print,
+        allowed: Allowances {
+            held_deletion: allowed % 2 == 1,
+            emf_plus: allowed >= 2,
+        },
+    }
+}
+
 /// The contents of a certificate, if its bytes end where the entries do and the entries' nibs are within their limits.
-pub(crate) fn read_whole(version: Version, bytes: &[u8]) -> Result<Certificate<'_>, Fault>
+fn read_whole(version: Version, rules: Rules, bytes: &[u8]) -> Result<Certificate<'_>, Fault>
     requires head { head_size ≤ length bytes.now }
     requires wide { IsSurfaceSide (number_at bytes.now 4 4) }
     requires high { IsSurfaceSide (number_at bytes.now 8 4) }
     ensures value { read_whole version bytes.now ≡ result_map certificate_of result }
+    ensures rules { IfOk result (λ c. c.rules ≡ rules) }
     ensures in_no_record { IfErr result (λ fault. IsInRecord fault → ⊥) }
     ensures no_memory { IfErr result (λ fault. fault ≡ Fault.OutOfMemory → ⊥) }
 {
@@ -110,6 +157,7 @@ pub(crate) fn read_whole(version: Version, bytes: &[u8]) -> Result<Certificate<'
         return Err(Fault::BadBound);
     }
     Ok(Certificate {
+        rules,
         max_width: u32_at(bytes, 4),
         max_height: u32_at(bytes, 8),
         writes: u64_at(bytes, 12),

@@ -6,7 +6,7 @@ ghost use Rattle.meta_headers.specs.File.{IsOpenedFrom};
 ghost use Rattle.preflight_cert.specs.Answer.{IsAnswer, IsRejectedWith, accepted, are_within, rejects, total_fault};
 ghost use Rattle.preflight_cert.specs.CertificateOf.{certificate_of};
 ghost use Rattle.preflight_cert.specs.ClearedFacts.{CountsItsRecords, IsSoundFor};
-ghost use Rattle.preflight_cert.specs.CertificateReading.{read_certificate};
+ghost use Rattle.preflight_cert.specs.CertificateReading.{read_certificate, rules_in};
 ghost use Rattle.preflight_cert.specs.OpenedRecords.{AnswersRecordsOf, CountsRecordsOf, RejectsRecordsOf};
 ghost use Rattle.preflight_cert.specs.Reached.{OpensBoth};
 ghost use Rattle.preflight_cert.specs.Refusal.{IsWantOfMemory, ReportsNumber};
@@ -19,20 +19,19 @@ use crate::refusal::Refusal;
 use dc_stack::{Machine, Needs};
 use draw_ops::{Fault, Notes, content_law};
 use mapping::Place;
-use meta_headers::{Opened, open_file};
+use meta_headers::{Opened, open_file, opening_law};
 use object_tables::FileTable;
 use std::alloc::Global;
 
-/// Checks a certificate against a file, at the size of its bound. If it is accepted, each run of the file on a surface
-/// within that bound has no fault and writes at most the certified number of pixels. Otherwise returns the first fault,
-/// in this order:
+/// Checks a certificate against a file, at its bound and under its rules. If it is accepted, a run on any surface within
+/// that bound has no fault and writes no more pixels than certified. Otherwise returns the first of these faults:
 ///
-/// - the file doesn't open;
-/// - the certificate can't be read;
-/// - a record has a fault at the bound, or its drawing has no entry (`WrongEntry`), or one whose box lacks a point
+/// - the file doesn't open, or else the certificate can't be read;
+/// - a record has a fault at the bound, or its drawing no entry (`WrongEntry`), or one whose box lacks a point
 ///   (`BoxTooSmall`) or whose nib is smaller (`NibTooSmall`);
+/// - an EMF file contains EMF+ and draws nothing (`EmfPlusAlone`);
 /// - there is a surplus entry;
-/// - a need is too small, or else the number of writes is.
+/// - a need, or else the number of writes, is too small.
 ///
 /// Memory is allocated only after both were read.
 pub fn check<'a>(
@@ -43,6 +42,7 @@ pub fn check<'a>(
     ensures accepted { OnOk result (IsAnswer file.now certificate.now accepted) }
     ensures opened { IfOk result (λ c. IsOpenedFrom file.now c.opened) }
     ensures read { IfOk result (λ c. read_certificate certificate.now ≡ Ok (certificate_of c.certificate)) }
+    ensures rules { IfOk result (λ c. c.opened.rules ≡ rules_in certificate.now) }
     ensures counts { IfOk result CountsItsRecords }
     ensures sound { IfOk result (IsSoundFor file.now) }
     ensures refusal { IfErr result (λ r. IsRejectedWith file.now certificate.now r ⊎ IsWantOfMemory r) }
@@ -50,6 +50,7 @@ pub fn check<'a>(
     ensures number_reported { IfErr result ReportsNumber }
 {
     answer_law();
+    opening_law();
     let opened = match open_file(file) {
         Ok(opened) => opened,
         Err(fault) => return Err(Refusal::of_file(fault)),
@@ -58,7 +59,7 @@ pub fn check<'a>(
         Ok(certificate) => certificate,
         Err(fault) => return Err(Refusal::of_file(fault)),
     };
-    match check_opened(alloc, opened, certificate) {
+    match check_opened(alloc, opened.by(certificate.rules), certificate) {
         Ok(cleared) => Ok(cleared),
         Err(refusal) => Err(refusal),
     }
@@ -72,13 +73,17 @@ fn check_opened<'a>(
 ) -> Result<Cleared<'a>, Refusal>
     ensures opened { IfOk result (λ c. c.opened ≡ opened.entry) }
     ensures certificate { IfOk result (λ c. c.certificate ≡ certificate.entry) }
-    ensures counts { IfOk result (λ c. CountsRecordsOf opened.entry c.records c.notes.counts) }
+    ensures counts { IfOk result (λ c. CountsRecordsOf opened.entry c.records c.notes.counts c.uses) }
     ensures accepted { OnOk result (AnswersRecordsOf opened.entry certificate.entry accepted) }
     ensures refusal { IfErr result (λ r. RejectsRecordsOf opened.entry certificate.entry r ⊎ IsWantOfMemory r) }
     ensures number_reported { IfErr result ReportsNumber }
 {
     content_law();
-    let place = Place::new(&opened.frame, certificate.max_width, certificate.max_height);
+    let place = Place::new(
+        &opened.fine_frame,
+        certificate.max_width,
+        certificate.max_height,
+    );
     let table = FileTable::new(alloc, opened.handles);
     let mut machine = Machine::new(alloc, &opened, place, table);
     let totals = match check_steps(
@@ -86,6 +91,7 @@ fn check_opened<'a>(
         &mut machine,
         certificate.entries,
         Notes::of(opened.notes),
+        opened.rules,
     ) {
         Ok(totals) => totals,
         Err(refusal) => return Err(refusal),
@@ -96,6 +102,7 @@ fn check_opened<'a>(
             certificate,
             records: totals.records,
             notes: totals.notes,
+            uses: totals.uses,
         }),
         Some(fault) => Err(Refusal::of_file(fault)),
     }

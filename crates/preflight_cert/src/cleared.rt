@@ -5,6 +5,7 @@ ghost use Rattle.preflight_cert.specs.Answer.{CountsRecords, IsCleared};
 ghost use Rattle.preflight_cert.specs.CertificateOf.{certificate_of};
 
 use crate::certificate::Certificate;
+use crate::uses::Uses;
 use draw_ops::Notes;
 use meta_headers::Opened;
 
@@ -22,6 +23,8 @@ pub struct Cleared<'a> {
     pub records: u32,
     /// The number of notes of each kind, of the file's headers and records.
     pub notes: Notes,
+    /// How often the file uses what its rules can allow.
+    pub uses: Uses,
     pub ghost checked: { IsCleared (opened_of opened) opened.records.now (certificate_of certificate) },
-    pub ghost counted: { CountsRecords (opened_of opened) opened.records.now records notes.counts },
+    pub ghost counted: { CountsRecords (opened_of opened) opened.records.now records notes.counts uses },
 }

@@ -16,11 +16,12 @@ ghost use Rattle.preflight_cert.specs.declared.version.Version.TheVariants.{Mpc2
 use crate::budget::drawing_budget;
 use crate::certificate_entry::Entry;
 use crate::draft::Draft;
+use crate::emf_plus::EmfPlus;
 use crate::entry_check::Totals;
 use crate::refusal::Refusal;
 use crate::stepping::play_next;
 use dc_stack::{Draw, Machine};
-use draw_ops::{Fault, Notes, OpSource, Step};
+use draw_ops::{Fault, Notes, OpSource, Rules, Step};
 use mapping::{Nib, Rect, box_law};
 use object_tables::Table;
 use span_fill::OutOfMemory;
@@ -32,8 +33,10 @@ pub(crate) fn gather<'a, S: OpSource<'a>, T: Table<'a>>(
     source: &mut S,
     machine: &mut Machine<'a, T>,
     noted: Notes,
+    rules: Rules,
     draft: &mut Draft,
 ) -> Result<Totals, Refusal>
+    requires rules { machine.old.state.rules ≡ rules }
     requires short { length (S.content source.old).steps ≤ record_limit }
     ensures gathers { IfOk result
         (λ totals. Gathers (S.content source.old) machine.old draft.old noted.counts totals machine.new draft.new) }
@@ -41,11 +44,8 @@ pub(crate) fn gather<'a, S: OpSource<'a>, T: Table<'a>>(
     ensures refusal { IfErr result (λ r. StopsGathering (S.content source.old) machine.old r ⊎ IsWantOfMemory r) }
     ensures number_reported { IfErr result ReportsNumber }
 {
-    let mut totals = Totals {
-        writes: 0,
-        records: 0,
-        notes: noted,
-    };
+    let mut totals = Totals::start(noted);
+    let mut emf_plus = EmfPlus::NONE;
     let mut step: Step<'a> = Step::without_effect();
     let mut drawn: Option<Draw<'a>> = None;
     loop {
@@ -54,12 +54,17 @@ pub(crate) fn gather<'a, S: OpSource<'a>, T: Table<'a>>(
             Err(refusal) => return Err(refusal),
         };
         if !is_played {
+            totals.uses = match emf_plus.uses(rules, machine.held_deletions(), totals.records) {
+                Ok(uses) => uses,
+                Err(refusal) => return Err(refusal),
+            };
             return Ok(totals);
         }
         match add_entry(step.number, &drawn, machine, draft) {
             Ok(more) => totals.writes += more,
             Err(OutOfMemory) => return Err(Refusal::of_file(Fault::OutOfMemory)),
         }
+        emf_plus = emf_plus.with(step.notes, drawn.is_some());
         totals.notes = totals.notes.with_all(step.notes);
         totals.records += 1;
     }

@@ -35,6 +35,7 @@ mod checking;
 mod cleared;
 mod covering;
 mod draft;
+mod emf_plus;
 mod entry_check;
 mod entry_gathering;
 mod laws;
@@ -42,6 +43,7 @@ mod prepared;
 mod preparing;
 mod refusal;
 mod stepping;
+mod uses;
 mod version;
 mod widening;
 mod writing;
@@ -50,11 +52,13 @@ pub use certificate::Certificate;
 pub use certificate_entry::{Entries, Entry};
 pub use checking::check;
 pub use cleared::Cleared;
+pub use emf_plus::EmfPlus;
 pub use laws::{
     answer_law, cleared_law, drawing_box_law, missed_rows_law, need_law, preparation_law,
     prepared_law, rows_law, run_law, size_law, text_law,
 };
 pub use prepared::Prepared;
-pub use preparing::prepare;
+pub use preparing::{prepare, prepare_by};
 pub use refusal::Refusal;
+pub use uses::Uses;
 pub use version::Version;

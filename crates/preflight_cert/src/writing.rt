@@ -2,14 +2,15 @@
 
 ghost use Rattle.std.specs.Prelude.{◌≡◌, ◌++◌, [], ◌∷◌, IfOk, OnOk};
 ghost use Rattle.std.specs.Int.{cast_unsigned, to_le_bytes, w16, w32, w64};
-ghost use Rattle.preflight_cert.specs.CertificateText.{entry_text, needs_text, nib_text, number_text};
-ghost use Rattle.preflight_cert.specs.TextParts.{bound_text, head_text, head_value, totals_text};
+ghost use Rattle.preflight_cert.specs.CertificateText.{allowed_number, entry_text, needs_text, nib_text, number_text};
+ghost use Rattle.preflight_cert.specs.TextParts.{bound_text, head_text, head_value, signature_numbers, totals_text};
 
 use crate::certificate_entry::Entry;
-use crate::certificate_reading::HEAD_SIZE;
+use crate::certificate_reading::{PRINT_HEAD_SIZE, PRINT_MARK};
 use crate::version::Version;
 use byteorder::{ByteOrder, LittleEndian};
 use dc_stack::Needs;
+use draw_ops::{Allowances, Rules};
 use mapping::{Nib, Rect};
 use span_fill::OutOfMemory;
 use std::alloc::Global;
@@ -123,16 +124,37 @@ pub struct Head {
     pub needs: Needs,
 }
 
+/// The number of what is allowed: the sum of 1 for held deletions, and 2 for EMF+ without a drawing.
+fn allowed_number(allowed: Allowances) -> u32
+    ensures { result ≡ allowed_number allowed }
+{
+    u32::from(allowed.held_deletion) + 2 * u32::from(allowed.emf_plus)
+}
+
+/// Appends the signature, and under the print profile what is allowed.
+#[tactic(auto, unfolding(crate::specs::CertificateReading::print_mark))]
+fn put_signature(text: &mut Vec<u8>, rules: Rules, version: Version) -> Result<(), OutOfMemory>
+    ensures { OnOk result (text.new.items ≡ text.old.items ++ signature_numbers rules version) }
+{
+    if rules.has_fine_plane() {
+        put_number(text, PRINT_MARK)?;
+        put_number(text, allowed_number(rules.allowed))
+    } else {
+        put_number(text, version.mark())
+    }
+}
+
 /// Appends the signature, the width and the height.
 fn put_bound(
     text: &mut Vec<u8>,
+    rules: Rules,
     version: Version,
     max_width: u32,
     max_height: u32,
 ) -> Result<(), OutOfMemory>
-    ensures { OnOk result (text.new.items ≡ text.old.items ++ bound_text version max_width max_height) }
+    ensures { OnOk result (text.new.items ≡ text.old.items ++ bound_text rules version max_width max_height) }
 {
-    put_number(text, version.mark())?;
+    put_signature(text, rules, version)?;
     put_number(text, max_width)?;
     put_number(text, max_height)
 }
@@ -153,19 +175,20 @@ fn put_totals(text: &mut Vec<u8>, writes: u64, needs: Needs, count: u32) -> Resu
     put_counts(text, needs, count)
 }
 
-/// The contents of a certificate of this version with this many entries, before the entries.
+/// The contents of a certificate under rules, of this version and with this many entries, before the entries.
 pub(crate) fn head_text(
     alloc: Global,
+    rules: Rules,
     version: Version,
     head: Head,
     count: u32,
 ) -> Result<Vec<u8>, OutOfMemory>
-    ensures { IfOk result (λ text. text.items ≡ head_text version (head_value head) count) }
+    ensures { IfOk result (λ text. text.items ≡ head_text rules version (head_value head) count) }
 {
-    let Ok(mut text) = Vec::with_capacity(alloc, HEAD_SIZE) else {
+    let Ok(mut text) = Vec::with_capacity(alloc, PRINT_HEAD_SIZE) else {
         return Err(OutOfMemory);
     };
-    put_bound(&mut text, version, head.max_width, head.max_height)?;
+    put_bound(&mut text, rules, version, head.max_width, head.max_height)?;
     put_totals(&mut text, head.writes, head.needs, count)?;
     Ok(text)
 }

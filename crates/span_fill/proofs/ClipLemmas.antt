@@ -4,7 +4,7 @@ use Rattle.std.specs.Prelude.{◌↔◌}
 use Rattle.std.proofs.lemmas.Int.{ints, by_lt_z}
 use Rattle.span_fill.specs.Strokes.{far, is_along}
 use Rattle.span_fill.proofs.HullLemmas.{LiesFromTo, along_lies, towards_lies}
-use Rattle.span_fill.proofs.Products.{mul_add, mul_comm_ℤ, mul_one, mul_order, neg_mul, mul_order_back, mul_sub, mul_twice, twice_mul}
+use Rattle.mapping.proofs.Products.{mul_add, mul_comm_ℤ, mul_one, mul_order, neg_mul, mul_order_back, mul_sub, mul_twice, twice_mul}
 use Rattle.span_fill.proofs.StepLemmas.{IsNearest, along_parts, along_within, by_towards, dividend, far_up, far_down}
 
 -- the count behind a quotient is the first whose multiple reaches one more than what was divided

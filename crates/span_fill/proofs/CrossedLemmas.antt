@@ -11,7 +11,7 @@ use Rattle.span_fill.specs.CrossedRows.{HasCrossedRows, HasRowsAfter, HasRowsTo,
 use Rattle.span_fill.specs.Fill.{across, crossing_dividend, down, has_row}
 use Rattle.span_fill.specs.declared.span.Span.{Span}
 use Rattle.span_fill.proofs.FloorLemmas.{floor_least, floor_low}
-use Rattle.span_fill.proofs.Products.{add_mul, mul_comm_ℤ, mul_neg, mul_twice, order_mul, sub_mul, twice_mul}
+use Rattle.mapping.proofs.Products.{add_mul, mul_comm_ℤ, mul_neg, mul_twice, order_mul, sub_mul, twice_mul}
 
 -- the floor is the last number whose multiple is at most the dividend
 pub last_is_floor : (a e q : ℤ) → pos 1 ≤ℤ e → q ≡ int_div_euclid a e → IsLastMultiple a e q

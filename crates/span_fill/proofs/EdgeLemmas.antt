@@ -14,7 +14,7 @@ use Rattle.span_fill.specs.Fill.{across, crossing_dividend, crossing_divisor, do
 use Rattle.span_fill.specs.Lines.{IsNear}
 use Rattle.span_fill.specs.declared.edge.Edge.{Edge}
 use Rattle.span_fill.proofs.FloorLemmas.{floor_above, floor_high, floor_least, floor_low, floor_one}
-use Rattle.span_fill.proofs.Products.{add_mul, mul_comm_ℤ, mul_neg, mul_order, mul_order_back, mul_twice, order_mul, twice_mul}
+use Rattle.mapping.proofs.Products.{add_mul, mul_comm_ℤ, mul_neg, mul_order, mul_order_back, mul_twice, order_mul, twice_mul}
 
 -- what a near coordinate is, in numbers
 pub near_within : (v : ℤ) → IsNear v → IsWithin (2 ^ 28 + 1) v

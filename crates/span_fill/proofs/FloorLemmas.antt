@@ -3,7 +3,7 @@ use Rattle.std.proofs.Common.{◌≡◌, ℕ, zero, suc, ◌+◌, ◌*◌, ◌/�
 use Rattle.std.specs.Int.{int_div_euclid}
 use Rattle.std.proofs.lemmas.Int.{ints}
 use Rattle.std.proofs.lemmas.Nat.{div-add-mod', mod_below}
-use Rattle.span_fill.proofs.Products.{mul_sub, mul_one, mul_order_back}
+use Rattle.mapping.proofs.Products.{mul_sub, mul_one, mul_order_back}
 
 -- what division of counts says: the quotient's multiple is at most n, and the next one is above it
 quotient_low : (n d : ℕ) → n / suc d * suc d ≤ n

@@ -4,7 +4,7 @@ use Rattle.std.specs.Prelude.{◌↔◌}
 use Rattle.std.proofs.Math.IntN.{*ℤ-zero}
 use Rattle.std.proofs.lemmas.Int.{ints, by_lt_z}
 use Rattle.span_fill.specs.Strokes.{far, is_along, is_towards}
-use Rattle.span_fill.proofs.Products.{mul_neg, mul_not_negative, mul_order, mul_order_back, order_mul}
+use Rattle.mapping.proofs.Products.{mul_neg, mul_not_negative, mul_order, mul_order_back, order_mul}
 use Rattle.span_fill.proofs.StepLemmas.{along_parts, along_within, by_towards, towards_down, towards_up}
 
 -- towards a greater coordinate, and towards one that isn't greater

@@ -1,4 +1,3 @@
-pub mod Products
 pub mod FloorLemmas
 pub mod StepLemmas
 pub mod LineLaw

@@ -15,7 +15,7 @@ use Rattle.span_fill.proofs.HullLemmas.{LiesFromTo, along_lies, towards_lies}
 use Rattle.span_fill.specs.RowLaws.{LiesBetween}
 use Rattle.span_fill.proofs.RowLawLemmas.{row_law}
 use Rattle.span_fill.proofs.LineLaw.{by_axis, on_x_major, on_y_major}
-use Rattle.span_fill.proofs.Products.{mul_add, mul_comm_ℤ, mul_one, mul_order, mul_sub, mul_twice, sub_mul, twice_mul}
+use Rattle.mapping.proofs.Products.{mul_add, mul_comm_ℤ, mul_one, mul_order, mul_sub, mul_twice, sub_mul, twice_mul}
 use Rattle.span_fill.proofs.StepLemmas.{along_parts}
 use Rattle.mapping.specs.Boxes.{HasPoint}
 use Rattle.mapping.specs.PixelBoxes.{BoxHasPixel}

@@ -8,7 +8,7 @@ use Rattle.span_fill.specs.MajorLines.{IsMajorLine, major_of}
 use Rattle.span_fill.specs.Lines.{HasNearEnds, IsNear}
 use Rattle.span_fill.specs.Strokes.{far, is_y_major}
 use Rattle.span_fill.specs.declared.line.Line.{Line}
-use Rattle.span_fill.proofs.Products.{mul_comm_ℤ, mul_neg, mul_order, mul_order_back, twice_mul}
+use Rattle.mapping.proofs.Products.{mul_comm_ℤ, mul_neg, mul_order, mul_order_back, twice_mul}
 
 not_above : (long : ℕ) (short : ℤ) (step : ℕ) (across rest : ℤ) → 1 ≤ long → short ≤ℤ pos long → pos 0 ≤ℤ rest → pos 2 *ℤ (pos step *ℤ short) +ℤ pos long ≡ pos 2 *ℤ (pos long *ℤ across) +ℤ rest → across ≤ℤ pos step
 not_above long short step across rest some high not_negative divided =

@@ -9,7 +9,7 @@ use Rattle.span_fill.specs.declared.fixed_walk.FixedWalk.{FixedWalk}
 use Rattle.span_fill.specs.declared.grid.Grid.{Grid}
 use Rattle.span_fill.specs.declared.numbering.Numbering.{Numbering}
 use Rattle.span_fill.proofs.FixedWalkLemmas.{Advances}
-use Rattle.span_fill.proofs.Products.{add_mul, mul_one, order_mul}
+use Rattle.mapping.proofs.Products.{add_mul, mul_one, order_mul}
 
 -- a row so many rows further on
 row_moved : (y f d s : ℤ) → (y +ℤ d -ℤ f) *ℤ s ≡ (y -ℤ f) *ℤ s +ℤ d *ℤ s

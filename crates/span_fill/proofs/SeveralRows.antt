@@ -17,7 +17,7 @@ use Rattle.span_fill.specs.WideEdges.{IsRowOf, column_in, high_over, last_in, lo
 use Rattle.span_fill.proofs.ChainLemmas.{HasOne, falls, rises, union_down, union_up}
 use Rattle.span_fill.proofs.FloorLemmas.{floor_above, floor_high, floor_least, floor_low, floor_one}
 use Rattle.span_fill.proofs.LineLaw.{on_x_major}
-use Rattle.span_fill.proofs.Products.{mul_add}
+use Rattle.mapping.proofs.Products.{mul_add}
 use Rattle.span_fill.proofs.StepLemmas.{along_from, along_parts}
 use Rattle.span_fill.proofs.WideEdgeExact.{IsFlatRow, x_major_near, no_turn, y_major_exact, total_more}
 use Rattle.span_fill.proofs.WideEdgeLemmas.{ends_down, ends_up}

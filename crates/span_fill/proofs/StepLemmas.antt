@@ -6,7 +6,7 @@ use Rattle.std.proofs.lemmas.Int.{ints, by_lt_z}
 use Rattle.std.proofs.lemmas.Bool.{and_parts, and_from, or_left, or_right}
 use Rattle.mapping.specs.TestLaws.{by_either, int_le-from, int_le-true, int_lt-from, int_lt-true}
 use Rattle.span_fill.specs.Strokes.{far, is_along, is_towards, is_nearest}
-use Rattle.span_fill.proofs.Products.{twice_mul}
+use Rattle.mapping.proofs.Products.{twice_mul}
 use Rattle.span_fill.proofs.FloorLemmas.{floor_low, floor_high, floor_one}
 
 -- how far two coordinates are apart, on either side

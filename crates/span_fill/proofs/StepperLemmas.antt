@@ -4,7 +4,7 @@ use Rattle.std.proofs.lemmas.Int.{ints, by_lt_z}
 use Rattle.span_fill.specs.Steppers.{StepperCanMove, IsStepper, IsStepperIncrement, IsMovedStepper}
 use Rattle.span_fill.specs.declared.stepper.Stepper.{Stepper}
 use Rattle.span_fill.specs.declared.stepper.StepperIncrement.{StepperIncrement}
-use Rattle.span_fill.proofs.Products.{mul_add, mul_comm_ℤ, mul_neg, mul_one, order_mul}
+use Rattle.mapping.proofs.Products.{mul_add, mul_comm_ℤ, mul_neg, mul_one, order_mul}
 
 stepper_kept :
     (total add divisor : ℤ) (step : StepperIncrement) (old new : Stepper) → (old.rest +ℤ step.more) <ℤ step.divisor → IsStepperIncrement add divisor step → IsStepper total divisor old

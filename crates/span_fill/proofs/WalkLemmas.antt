@@ -7,7 +7,7 @@ use Rattle.span_fill.specs.Axis.{ahead}
 use Rattle.span_fill.specs.Strokes.{far, is_along, is_towards}
 use Rattle.span_fill.specs.Walks.{IsAt, IsMoved}
 use Rattle.span_fill.specs.declared.walk.Walk.{Walk}
-use Rattle.span_fill.proofs.Products.{mul_add, mul_one}
+use Rattle.mapping.proofs.Products.{mul_add, mul_one}
 use Rattle.span_fill.proofs.StepLemmas.{IsNearest, along_from, far_up, far_down, towards_up, towards_down}
 
 one_ahead : (forwards : Bool) (u : ℤ) (step : ℕ) → ahead forwards (ahead forwards u step) 1 ≡ ahead forwards u (suc step)

@@ -14,7 +14,7 @@ use Rattle.span_fill.specs.declared.stepper.Stepper.{Stepper}
 use Rattle.span_fill.specs.declared.line.Line.{Line}
 use Rattle.span_fill.specs.declared.row_slope.RowSlope.{RowSlope}
 use Rattle.span_fill.proofs.LineLaw.{on_y_major}
-use Rattle.span_fill.proofs.Products.{mul_add, mul_one}
+use Rattle.mapping.proofs.Products.{mul_add, mul_one}
 use Rattle.span_fill.proofs.StepLemmas.{IsNearest, along_from, along_parts, by_towards, far_down, far_up, nearest_only}
 use Rattle.span_fill.proofs.WideEdgeLemmas.{ends_down, ends_up, falling_near, rising_near, y_major_column, flipped}
 

@@ -7,7 +7,7 @@ use Rattle.span_fill.specs.RowSlopes.{turn_of}
 use Rattle.span_fill.specs.WideEdges.{high_of, low_of}
 use Rattle.span_fill.specs.Strokes.{far, is_towards}
 use Rattle.span_fill.specs.declared.major_line.MajorLine.{MajorLine}
-use Rattle.span_fill.proofs.Products.{mul_add, mul_comm_ℤ, mul_neg, mul_one, mul_order, mul_order_back, mul_sub, neg_mul, twice_mul}
+use Rattle.mapping.proofs.Products.{mul_add, mul_comm_ℤ, mul_neg, mul_one, mul_order, mul_order_back, mul_sub, neg_mul, twice_mul}
 use Rattle.span_fill.proofs.StepLemmas.{IsNearest, by_towards, dividend, far_down, far_up}
 
 -- a step's share of the rise is that of the coordinate that grows

@@ -3,7 +3,8 @@
 //! it on white, run a command, or inform about a file, whose name stands in place of the certificate.
 //!
 //! A request is five little-endian numbers of four bytes, followed by the bytes that they count. The numbers are its
-//! kind, a width, a height, and the lengths of the file and the certificate. An image has three bytes per pixel.
+//! kind, a width, a height, and the lengths of the file and the certificate. An image has three bytes per pixel. The
+//! upper half of the kind is the number of the rules (`rules_of`).
 //!
 //! For a command there are six more numbers: the length of an image in P6, the rows of a band or 0, and for each output
 //! how many bytes it takes, and 1 if it can be flushed.
@@ -12,17 +13,20 @@
 ghost use Rattle.std.specs.Prelude.{◌-◌, ◌^◌, ◌<◌};
 
 mod informing;
+mod rules;
 
 use crate::informing::answer_info;
+use crate::rules::rules_of;
 use canvas::{Canvas, Counting, FaultCount};
 use commands::{
-    CommandEnd, Completion, check_command, list_command, over_command, play_command,
-    prepare_command, show_command,
+    CommandEnd, Completion, check_command, list_command_by, over_command, play_command,
+    prepare_command_by, show_command_by,
 };
+use draw_ops::Rules;
 use mapping::{Colour, MAX_SURFACE_SIDE};
 use player::play;
 use point_views::u32_at;
-use preflight_cert::{Cleared, check, prepare};
+use preflight_cert::{Cleared, check, prepare_by};
 use std::alloc::Global;
 use std::io::{self, Read, Write};
 use test_support::limited;
@@ -31,6 +35,7 @@ use test_support::limited;
 #[derive(Clone, Copy)]
 struct Request<'a> {
     kind: u32,
+    rules: Rules,
     width: u32,
     height: u32,
     more: Numbers,
@@ -109,7 +114,8 @@ fn first_colour(bytes: &[u8]) -> Option<(Colour, &[u8])> {
 
 /// The first request, and the bytes after it.
 fn next_request(bytes: &[u8]) -> Option<(Request<'_>, &[u8])> {
-    let (kind, rest) = first_number(bytes)?;
+    let (asked, rest) = first_number(bytes)?;
+    let kind = asked & 0xffff;
     let (width, rest) = first_number(rest)?;
     let (height, rest) = first_number(rest)?;
     let (of_file, rest) = first_number(rest)?;
@@ -129,6 +135,7 @@ fn next_request(bytes: &[u8]) -> Option<(Request<'_>, &[u8])> {
     let (image, rest) = split(rest, of_image as usize)?;
     let request = Request {
         kind,
+        rules: rules_of(asked >> 16),
         width,
         height,
         more,
@@ -214,7 +221,7 @@ fn run_command<O: FaultCount, E: FaultCount>(
     requires capacity_err { E.fault_count err.old < 2 ^ 64 - 1 }
 {
     let (width, height) = (request.width, request.height);
-    let (file, certificate) = (request.file, request.certificate);
+    let (rules, file, certificate) = (request.rules, request.file, request.certificate);
     if width < 1 || MAX_SURFACE_SIDE < width || height < 1 || MAX_SURFACE_SIDE < height {
         return Completion {
             end: CommandEnd::WrongUsage,
@@ -222,8 +229,8 @@ fn run_command<O: FaultCount, E: FaultCount>(
         };
     }
     match request.kind {
-        4 => show_command(alloc, file, width, height, out, err),
-        5 => prepare_command(alloc, file, width, height, out, err),
+        4 => show_command_by(alloc, rules, file, width, height, out, err),
+        5 => prepare_command_by(alloc, rules, file, width, height, out, err),
         6 => check_command(alloc, file, certificate, out, err),
         7 => {
             let rows = request.more.rows;
@@ -231,7 +238,7 @@ fn run_command<O: FaultCount, E: FaultCount>(
             play_command(alloc, file, certificate, width, height, bands, out, err)
         }
         8 => over_command(alloc, file, certificate, request.image, out, err),
-        _ => list_command(alloc, file, out, err),
+        _ => list_command_by(alloc, rules, file, out, err),
     }
 }
 
@@ -252,13 +259,14 @@ fn answer_command<W: Write>(alloc: Global, request: &Request<'_>, to: &mut W) ->
 /// Answers a request with a line and the bytes that were made.
 fn answer<W: Write>(alloc: Global, request: &Request<'_>, out: &mut W) -> io::Result<()> {
     if request.kind == 10 {
-        return answer_info(alloc, request.certificate, request.file, out);
+        return answer_info(alloc, request.rules, request.certificate, request.file, out);
     }
     if request.kind >= 4 {
         return answer_command(alloc, request, out);
     }
     if request.kind == 0 {
-        return match prepare(alloc, request.file, request.width, request.height) {
+        let (width, height) = (request.width, request.height);
+        return match prepare_by(alloc, request.rules, request.file, width, height) {
             Err(refusal) => writeln!(out, "{refusal}"),
             Ok(text) => {
                 let count = text.len();

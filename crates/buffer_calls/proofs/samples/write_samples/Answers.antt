@@ -14,7 +14,7 @@ returns-in-Ok-clause-done g c =
     let size = length-take-le split.header_length split.header (omega (arith, split.whole, split.short)) in
     let text = c.in-Ok.ensures.text in
     λ file from.
-    played _ _ c.args.samples.now writer.samples.now _ (search rules) c.rows_law.ensures file c.args.surface.width c.args.surface.height c.requires.wide
+    played _ _ c.args.samples.now writer.samples.now _ (search rules) c.rows_law.ensures c.args.cleared.now.opened.rules file c.args.surface.width c.args.surface.height c.requires.wide
     (take split.header_length split.header) text.text split.written (text.of_run file from) (size ∙ writer.header ∙ sym c.requires.header) c.requires.size text.appended
 
 pub returns-then-eq-clause-done : goal.returns-then-eq-clause-done
@@ -27,7 +27,7 @@ returns-then-eq-clause-done g c =
     let part = c.in-Err.ensures.prefix failed in
     let full = writer.full (c.in-Err.ensures.fault failed) in
     λ file from.
-    filled _ _ c.args.samples.now writer.samples.now _ (search rules) c.rows_law.ensures file c.args.surface.width c.args.surface.height c.requires.wide
+    filled _ _ c.args.samples.now writer.samples.now _ (search rules) c.rows_law.ensures c.args.cleared.now.opened.rules file c.args.surface.width c.args.surface.height c.requires.wide
     (take split.header_length split.header) part.text part.appended.sent part.appended.unsent split.written (part.of_run file from)
     (size ∙ writer.header ∙ sym c.requires.header) c.requires.size part.appended.prefix (omega (arith, size, full)) part.appended.appended
 

@@ -20,19 +20,19 @@ pub returns-in-Some-subcommand_matches-2-clause-asked : goal.returns-in-Some-sub
 returns-in-Some-subcommand_matches-2-clause-asked c = asked_by _ (codes "check") _ c.asked_check.result (c.in-Some-subcommand_matches-2.ensures.found.0 refl) c.in-Some-subcommand_matches-2.ensures.rows c.asked_check.ensures.name c.asked_check.ensures.gives
 
 pub returns-in-Some-subcommand_matches-2-clause-taken : goal.returns-in-Some-subcommand_matches-2-clause-taken
-returns-in-Some-subcommand_matches-2-clause-taken c = λ right other. c.asked_check.ensures.taken (right_rows _ (codes "check") check_app.top _ right (c.in-Some-subcommand_matches-2.ensures.found.0 refl) c.in-Some-subcommand_matches-2.ensures.rows refl)
+returns-in-Some-subcommand_matches-2-clause-taken c = λ right other. c.asked_check.ensures.taken (right_rows _ (codes "check") check_app.top _ right (c.in-Some-subcommand_matches-2.ensures.found.0 refl) c.in-Some-subcommand_matches-2.ensures.rows refl).all
 
 pub returns-in-Some-subcommand_matches-3-clause-asked : goal.returns-in-Some-subcommand_matches-3-clause-asked
 returns-in-Some-subcommand_matches-3-clause-asked c = asked_by _ (codes "play") _ c.asked_play.result (c.in-Some-subcommand_matches-3.ensures.found.0 refl) c.in-Some-subcommand_matches-3.ensures.rows c.asked_play.ensures.name c.asked_play.ensures.gives
 
 pub returns-in-Some-subcommand_matches-3-clause-taken : goal.returns-in-Some-subcommand_matches-3-clause-taken
-returns-in-Some-subcommand_matches-3-clause-taken c = λ right other. c.asked_play.ensures.taken (right_rows _ (codes "play") play_app.top _ right (c.in-Some-subcommand_matches-3.ensures.found.0 refl) c.in-Some-subcommand_matches-3.ensures.rows refl)
+returns-in-Some-subcommand_matches-3-clause-taken c = λ right other. c.asked_play.ensures.taken (right_rows _ (codes "play") play_app.top _ right (c.in-Some-subcommand_matches-3.ensures.found.0 refl) c.in-Some-subcommand_matches-3.ensures.rows refl).all
 
 pub returns-in-Some-subcommand_matches-4-clause-asked : goal.returns-in-Some-subcommand_matches-4-clause-asked
 returns-in-Some-subcommand_matches-4-clause-asked c = asked_by _ (codes "over") _ c.asked_over.result (c.in-Some-subcommand_matches-4.ensures.found.0 refl) c.in-Some-subcommand_matches-4.ensures.rows c.asked_over.ensures.name c.asked_over.ensures.gives
 
 pub returns-in-Some-subcommand_matches-4-clause-taken : goal.returns-in-Some-subcommand_matches-4-clause-taken
-returns-in-Some-subcommand_matches-4-clause-taken c = λ right other. c.asked_over.ensures.taken (right_rows _ (codes "over") over_app.top _ right (c.in-Some-subcommand_matches-4.ensures.found.0 refl) c.in-Some-subcommand_matches-4.ensures.rows refl)
+returns-in-Some-subcommand_matches-4-clause-taken c = λ right other. c.asked_over.ensures.taken (right_rows _ (codes "over") over_app.top _ right (c.in-Some-subcommand_matches-4.ensures.found.0 refl) c.in-Some-subcommand_matches-4.ensures.rows refl).all
 
 pub returns-in-Some-subcommand_matches-5-clause-asked : goal.returns-in-Some-subcommand_matches-5-clause-asked
 returns-in-Some-subcommand_matches-5-clause-asked c = asked_by _ (codes "list") _ c.asked_list.result (c.in-Some-subcommand_matches-5.ensures.found.0 refl) c.in-Some-subcommand_matches-5.ensures.rows c.asked_list.ensures.name c.asked_list.ensures.gives

@@ -1,5 +1,5 @@
 -- The second of two words is compared with both words that ask for the version.
-use Rattle.std.proofs.Common.{◌≡◌, ◌∙◌, ◌⊎◌, inl, inr, ap, arith, codes, false, length, slice_index_or, string_bytes, subst, sym, true, Bool, List, [], ◌∷◌, String, ℕ}
+use Rattle.std.proofs.Common.{◌≡◌, ◌∙◌, ◌⊎◌, inl, inr, ap, arith, codes, false, length, slice_index_or, string_bytes, subst, sym, true, Bool, List, [], ◌∷◌, String}
 use Rattle.std.proofs.lemmas.Slice.Eq.{bytes_eq-Decides}
 use Rattle.std.specs.Str.{bytes_eq}
 use Rattle.std.specs.declared.alloc.Global.{Global}

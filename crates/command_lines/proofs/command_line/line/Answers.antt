@@ -1,13 +1,15 @@
 -- What the words ask for follows from what clap finds in them.
-use Rattle.std.proofs.Common.{◌≡◌, ◌∙◌, ◌⊎◌, inl, inr, Bool, List, Option, Result, Ok, Err, IfErr, IfSome, IsSome, IsErrAnd, ap, false, map, string_bytes, subst, sym, true}
+use Rattle.std.proofs.Common.{◌≡◌, ◌∙◌, Bool, List, [], Option, Result, Ok, Err, IfErr, IfSome, IsSome, IsErrAnd, ap, false, subst, sym, true}
+use Rattle.clap.specs.Faults.{fault_of, is_simple_and_free}
 use Rattle.clap.specs.Words.{App, Row, Text, app_of, is_simple, kind_of, subcommand_of, subcommand_rows_of, takes}
 use Rattle.clap.specs.declared.error.Error.{Error}
 use Rattle.clap.specs.declared.error.kind.ErrorKind.TheVariants.{OutOfMemory}
-use Rattle.command_lines.specs.Asked.{IsAskedFor, IsFound}
+use Rattle.command_lines.specs.Asked.{IsFound}
 use Rattle.command_lines.specs.CommandLine.{metaplay_app, texts_of}
 use Rattle.command_lines.specs.InfoWords.{AreCommandWords}
 use Rattle.command_lines.specs.declared.asked.Asked.{Asked}
 use Rattle.command_lines.proofs.InfoLemmas.{command_words_found, command_words_taken, few_texts}
+use Rattle.command_lines.proofs.ProfileLemmas.{none_wrong}
 use Rattle.command_lines.proofs.WordLemmas.{asked_for, plain_words}
 use Rattle.command_lines.proofs.command_line.line.Goals as goal
 
@@ -48,3 +50,9 @@ returns-clause-taken c = λ right.
     (c.in_ok-matches.ensures.ok.2 (ap is_simple app)).1 ∙ ap (λ (a : App). subcommand_of a (texts_of c.args.words.now)) app in
     let bad : false ≡ true = command_words_found (texts_of c.args.words.now) _ false met (λ right other. subst IsSome c.in-None.is (c.in_ok-asked.ensures.command_taken right other)) (λ info. subst IsSome c.in-None.is (c.in_ok-asked.ensures.info_taken info)) (no_version c.asks_version.result c.if-asks_version.false c.asks_version.ensures) right in
     cc
+
+pub returns-in-Some-clause-refused : goal.returns-in-Some-clause-refused
+returns-in-Some-clause-refused c =
+    let app : app_of c.in_ok-command.command ≡ metaplay_app = c.in_ok-command.ensures in
+    let faultless : fault_of (app_of c.in_ok-command.command) (texts_of c.args.words.now) ≡ [] = c.in_ok-matches.ensures.kinds (ap is_simple_and_free app) in
+    none_wrong (texts_of c.args.words.now) (subst (λ (a : App). fault_of a (texts_of c.args.words.now) ≡ []) app faultless)

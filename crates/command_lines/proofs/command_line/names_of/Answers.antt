@@ -1,8 +1,8 @@
 -- The names are the texts of the argument.
-use Rattle.std.proofs.Common.{◌≡◌, ◌∙◌, ap, sym, codes, false, Option, Some, None, List, ℕ, ◌≤◌, ◌<◌, Bor, arith}
-use Rattle.clap.specs.Words.{Text, all_of, found_of, rows_of}
+use Rattle.std.proofs.Common.{◌≡◌, ◌∙◌, ap, sym, codes, Some, List, ℕ, Bor, arith}
+use Rattle.clap.specs.Words.{found_of}
 use Rattle.clap.proofs.WalkLemmas.{raw_values-rows}
-use Rattle.command_lines.specs.InfoWords.{GivesNamesOnce, HasOneInput, names_in}
+use Rattle.command_lines.specs.InfoWords.{HasOneInput, names_in}
 use Rattle.command_lines.proofs.command_line.names_of.Goals as goal
 
 same_inside : {A : Type 0} {x y : A} → Some x ≡ Some y → x ≡ y

@@ -1,16 +1,15 @@
--- The width and height come after the file, then the option for the proportion.
+-- The width and height come after the file, then the options for the proportion and for the rules.
 use Rattle.std.proofs.Common.{◌∙◌, ap, ap₂}
 use Rattle.std.proofs.lemmas.Result.{IfOk-weaker}
 use Rattle.clap.specs.Words.{with_rule}
-use Rattle.command_lines.specs.CommandLine.{with_dimensions}
+use Rattle.command_lines.specs.CommandLine.{with_dimensions, with_rules}
 use Rattle.command_lines.proofs.AppLemmas.{both_local}
 use Rattle.command_lines.proofs.declared.show.Goals as goal
 
 pub returns : goal.returns
 returns c =
     let dimensions = c.in_ok-command-2.ensures in
-    IfOk-weaker c.arg.result _ _
-    (λ r added. record {
-      is = added.shape c.fit.ensures.local ∙ ap₂ with_rule (dimensions.is ∙ ap with_dimensions c.in_ok-command.ensures.is) c.fit.ensures.rule;
-      local = both_local _ _ _ added.globals (dimensions.local c.in_ok-command.ensures.local) c.fit.ensures.local;
-    }) c.arg.ensures
+    let fitted = c.in_ok-command-3.ensures in
+    let shape = fitted.shape c.fit.ensures.local ∙ ap₂ with_rule (dimensions.is ∙ ap with_dimensions c.in_ok-command.ensures.is) c.fit.ensures.rule in
+    let local = both_local _ _ _ fitted.globals (dimensions.local c.in_ok-command.ensures.local) c.fit.ensures.local in
+    IfOk-weaker c.with_rules.result _ _ (λ r ruled. record { is = ruled.is ∙ ap with_rules shape; local = ruled.local local }) c.with_rules.ensures

@@ -13,7 +13,7 @@ returns-in-Err-BadImage-clause-refusal c =
 
 pub returns-in-Ok-play_over-clause-image : goal.returns-in-Ok-play_over-clause-image
 returns-in-Ok-play_over-clause-image c =
-    played_over _ _ _ _ _ c.in-Ok.cleared c.in-Ok.ensures.accepted c.in-Ok.ensures.opened c.in-Ok.ensures.read c.in-Ok-from_ppm.ensures.image c.in-Ok-play_over.ensures.within c.in-Ok-play_over.ensures.image
+    played_over _ _ _ _ _ c.in-Ok.cleared c.in-Ok.ensures.accepted c.in-Ok.ensures.opened c.in-Ok.ensures.read c.in-Ok-from_ppm.ensures.image c.in-Ok-play_over.ensures.within c.in-Ok.ensures.rules c.in-Ok-play_over.ensures.image
 
 pub returns-in-Err-play_over-clause-refusal : goal.returns-in-Err-play_over-clause-refusal
 returns-in-Err-play_over-clause-refusal c =

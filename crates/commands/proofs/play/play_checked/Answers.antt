@@ -10,12 +10,12 @@ returns-in-Err-clause-failed g c = check_fails c.args.file.now c.args.certificat
 
 pub returns-clause-done : goal.returns-clause-done
 returns-clause-done g c =
-    on_ok_weaker c.write_played.result (play_done _ _ c.in-Ok.cleared _ _ c.in-Ok.ensures.accepted c.in-Ok.ensures.opened c.in-Ok.ensures.read _ _) c.write_played.ensures.done
+    on_ok_weaker c.write_played.result (play_done _ _ c.in-Ok.cleared _ _ c.in-Ok.ensures.accepted c.in-Ok.ensures.opened c.in-Ok.ensures.read c.in-Ok.ensures.rules _ _) c.write_played.ensures.done
 
 pub returns-clause-failed : goal.returns-clause-failed
 returns-clause-failed g c =
     IfErr-weaker c.write_played.result _ _
-    (λ failure fails. play_fails _ _ c.in-Ok.cleared _ _ c.in-Ok.ensures.accepted c.in-Ok.ensures.opened c.in-Ok.ensures.read g.O.Write.contents c.args.out.now c.write_played.new.out failure fails)
+    (λ failure fails. play_fails c.args.file.now c.args.certificate.now c.in-Ok.cleared _ _ c.in-Ok.ensures.accepted c.in-Ok.ensures.opened c.in-Ok.ensures.read c.in-Ok.ensures.rules g.O.Write.contents c.args.out.now c.write_played.new.out failure fails)
     c.write_played.ensures.failed
 
 pub returns-in-Err-clause-memory : goal.returns-in-Err-clause-memory

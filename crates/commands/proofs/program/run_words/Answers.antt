@@ -30,32 +30,32 @@ returns-in-Ok-Command-clause-unshown g c = on_err_weaker c.perform.result.printe
 
 pub returns-in-Ok-Info-clause-written : goal.returns-in-Ok-Info-clause-written
 returns-in-Ok-Info-clause-written g c =
-    out_of_names _ (names_in c.in-Ok-Info.names.items) _ _ (subst IsValid c.in-Ok-Info.field-0-is c.in-Ok-Info.ensures.valid) (subst (IsAskedFor (texts_of c.args.call.words.now)) c.in-Ok-Info.field-0-is c.in-Ok-Info.ensures.asked) c.info_command.result.end _ _
+    out_of_names _ (names_in c.in-Ok-Info.names.items) c.in-Ok-Info.rules _ _ (subst IsValid c.in-Ok-Info.field-0-is c.in-Ok-Info.ensures.valid) (subst (IsAskedFor (texts_of c.args.call.words.now)) c.in-Ok-Info.field-0-is c.in-Ok-Info.ensures.asked) c.info_command.result.end _ _
     (rw c.as_slice.ensures.value at c.info_command.ensures.written)
 
 pub returns-in-Ok-Info-clause-printed : goal.returns-in-Ok-Info-clause-printed
 returns-in-Ok-Info-clause-printed g c =
-    err_of_names _ (names_in c.in-Ok-Info.names.items) _ c.args.call.version.now (subst IsValid c.in-Ok-Info.field-0-is c.in-Ok-Info.ensures.valid) (subst (IsAskedFor (texts_of c.args.call.words.now)) c.in-Ok-Info.field-0-is c.in-Ok-Info.ensures.asked) c.info_command.result.end _ _ _ c.info_command.ensures.printed
+    err_of_names _ (names_in c.in-Ok-Info.names.items) c.in-Ok-Info.rules _ c.args.call.version.now (subst IsValid c.in-Ok-Info.field-0-is c.in-Ok-Info.ensures.valid) (subst (IsAskedFor (texts_of c.args.call.words.now)) c.in-Ok-Info.field-0-is c.in-Ok-Info.ensures.asked) c.info_command.result.end _ _ _ c.info_command.ensures.printed
 
 pub returns-in-Ok-Info-clause-cannot_write : goal.returns-in-Ok-Info-clause-cannot_write
 returns-in-Ok-Info-clause-cannot_write g c = λ e.
-    holds_of_names _ (names_in c.in-Ok-Info.names.items) _ _ _ (subst IsValid c.in-Ok-Info.field-0-is c.in-Ok-Info.ensures.valid) (subst (IsAskedFor (texts_of c.args.call.words.now)) c.in-Ok-Info.field-0-is c.in-Ok-Info.ensures.asked) (c.info_command.ensures.cannot_write e)
+    holds_of_names _ (names_in c.in-Ok-Info.names.items) c.in-Ok-Info.rules _ _ _ (subst IsValid c.in-Ok-Info.field-0-is c.in-Ok-Info.ensures.valid) (subst (IsAskedFor (texts_of c.args.call.words.now)) c.in-Ok-Info.field-0-is c.in-Ok-Info.ensures.asked) (c.info_command.ensures.cannot_write e)
 
 pub returns-in-Ok-Info-clause-flushed : goal.returns-in-Ok-Info-clause-flushed
 returns-in-Ok-Info-clause-flushed g c = λ e.
-    holds_of_names _ (names_in c.in-Ok-Info.names.items) _ _ _ (subst IsValid c.in-Ok-Info.field-0-is c.in-Ok-Info.ensures.valid) (subst (IsAskedFor (texts_of c.args.call.words.now)) c.in-Ok-Info.field-0-is c.in-Ok-Info.ensures.asked) (c.info_command.ensures.flushed e)
+    holds_of_names _ (names_in c.in-Ok-Info.names.items) c.in-Ok-Info.rules _ _ _ (subst IsValid c.in-Ok-Info.field-0-is c.in-Ok-Info.ensures.valid) (subst (IsAskedFor (texts_of c.args.call.words.now)) c.in-Ok-Info.field-0-is c.in-Ok-Info.ensures.asked) (c.info_command.ensures.flushed e)
 
 pub returns-in-Ok-Info-clause-usage_words : goal.returns-in-Ok-Info-clause-usage_words
-returns-in-Ok-Info-clause-usage_words g c = λ rejects. never_usage c.info_command.result.end _ _ _ _ _ c.info_command.ensures.written rejects.wrong
+returns-in-Ok-Info-clause-usage_words g c = λ rejects. never_usage c.info_command.result.end _ _ _ _ _ _ c.info_command.ensures.written rejects.wrong
 
 pub returns-in-Ok-Info-clause-usage_wrong : goal.returns-in-Ok-Info-clause-usage_wrong
-returns-in-Ok-Info-clause-usage_wrong g c = λ rejects. never_usage c.info_command.result.end _ _ _ _ _ c.info_command.ensures.written rejects.wrong
+returns-in-Ok-Info-clause-usage_wrong g c = λ rejects. never_usage c.info_command.result.end _ _ _ _ _ _ c.info_command.ensures.written rejects.wrong
 
 pub returns-in-Ok-Info-clause-usage_unwritten : goal.returns-in-Ok-Info-clause-usage_unwritten
-returns-in-Ok-Info-clause-usage_unwritten g c = λ rejects. never_usage c.info_command.result.end _ _ _ _ _ c.info_command.ensures.written rejects.wrong
+returns-in-Ok-Info-clause-usage_unwritten g c = λ rejects. never_usage c.info_command.result.end _ _ _ _ _ _ c.info_command.ensures.written rejects.wrong
 
 pub returns-in-Ok-Info-clause-usage_unread : goal.returns-in-Ok-Info-clause-usage_unread
-returns-in-Ok-Info-clause-usage_unread g c = λ wrong. never_usage c.info_command.result.end _ _ _ _ _ c.info_command.ensures.written wrong
+returns-in-Ok-Info-clause-usage_unread g c = λ wrong. never_usage c.info_command.result.end _ _ _ _ _ _ c.info_command.ensures.written wrong
 
 pub returns-in-Ok-Info-clause-unshown : goal.returns-in-Ok-Info-clause-unshown
 returns-in-Ok-Info-clause-unshown g c = on_err_weaker c.info_command.result.printed inl c.info_command.ensures.unreported

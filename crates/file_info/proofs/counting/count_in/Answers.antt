@@ -9,4 +9,4 @@ returns g c =
     let ends : (total : TotalsValue) → Leads c.args.format (tally c.loop-totals.dry_run c.loop-totals.walk c.loop-totals.totals) total → HasTotals c.count_next.new.totals total =
     subst (λ (more : Bool). CountsNext c.args.format (tally c.loop-totals.dry_run c.loop-totals.walk c.loop-totals.totals) (tally c.count_next.new.run c.count_next.new.walk c.count_next.new.totals) more)
     c.if-branch.false c.in_ok-count_next.ensures in
-    ends (totals_in c.args.format c.args.file.now) c.loop-totals.invariant.leads
+    ends (totals_in c.args.format c.args.rules c.args.file.now) c.loop-totals.invariant.leads

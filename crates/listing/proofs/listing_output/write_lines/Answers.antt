@@ -2,7 +2,6 @@
 use Rattle.std.proofs.Common.{◌≡◌, ap, arith, refl, sym, ◌∙◌}
 use Rattle.std.proofs.lemmas.Result.{err_from_is_err_and}
 use Rattle.listing.specs.Formats.{first_place}
-use Rattle.listing.specs.DryRunState.{dry_run_state_of}
 use Rattle.listing.specs.Listing.{framed_records, listed_by}
 use Rattle.listing.specs.Putting.{PutsLine, PutsRest, coming, listing_left}
 use Rattle.listing.proofs.LineLemmas.{begins}
@@ -13,9 +12,8 @@ pub loop-buffer-init : goal.loop-buffer-init
 loop-buffer-init g c =
     let framed : c.new-walk.result.framed ≡ framed_records c.args.format c.args.file.now = rw (c.requires.framing, ← c.records_in-records.ensures) c.new-walk.ensures.framed in
     record {
-      sending = rw c.requires.start
-          (begins (g.W.Write.contents c.args.out.now) c.args.format (dry_run_state_of c.args.file.now) (framed_records c.args.format c.args.file.now) (first_place c.args.format) c.new-buffer.result c.new-walk.result
-          c.new-buffer.ensures c.new-walk.ensures.number (c.new-walk.ensures.place ∙ c.first_place.ensures.value) framed);
+      sending = begins (g.W.Write.contents c.args.out.now) c.args.format c.args.dry_run.now (framed_records c.args.format c.args.file.now) (first_place c.args.format) c.new-buffer.result c.new-walk.result
+          c.new-buffer.ensures c.new-walk.ensures.number (c.new-walk.ensures.place ∙ c.first_place.ensures.value) framed;
       end = ap listed_by framed;
       capacity = c.requires.capacity;
       count = omega arith;

@@ -8,7 +8,7 @@ use Rattle.listing.proofs.listing_output.write_lines.Given as goal
 -- room for one more fault
 abbrev pub invariant-loop-buffer : goal.invariant-loop-buffer
 invariant-loop-buffer g l = record {
-  sending : Sending (g.W.Write.contents l.fn.out) (g.W.Write.contents l.out) (listing_in l.format l.file) (l.buffer ++ listing_left l.format (coming l.walk l.dry_run));
+  sending : Sending (g.W.Write.contents l.fn.out) (g.W.Write.contents l.out) (listing_in l.format l.fn.dry_run l.file) (l.buffer ++ listing_left l.format (coming l.walk l.dry_run));
   end : listed_by l.walk.framed ≡ listed_by (framed_records l.format l.file);
   capacity : g.S.Sender.faults l.out + g.S.Sender.counted < 2 ^ 64;
   count : g.S.Sender.faults l.fn.out ≤ g.S.Sender.faults l.out;

@@ -14,7 +14,7 @@ returns-clause-played c =
     let plan = c.args.plan in
     let canvas = c.args.scratch.now.canvas in
     let ready = c.requires.ready in
-    let state = c.restart.ensures.state ∙ ap (start_state (map_numbers opened.start_map)) ready.ready.kind in
+    let state = c.restart.ensures.state ∙ ap (start_state opened.rules (map_numbers opened.start_map)) ready.ready.kind in
     let image = c.requires.blank.image ∙ ap (λ (n : ℕ). blank plan.width n plan.start) (sym c.rows-rows.ensures.rows) in
     band_played c.content_law.ensures o opened.records.now (plan_surface c.args.cleared.now plan) plan.start c.args.first c.rows-rows.result c.restart.new.self canvas canvas c.play_rows.new.canvas
     state (c.restart.ensures.goes_on.surface ∙ ready.surface) image c.requires.blank.top refl c.play_rows.ensures.played

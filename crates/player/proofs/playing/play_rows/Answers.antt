@@ -8,6 +8,7 @@ use Rattle.preflight_cert.specs.Answer.{bound_of}
 use Rattle.preflight_cert.specs.CertificateOf.{certificate_of}
 use Rattle.preflight_cert.specs.Stop.{stop_of}
 use Rattle.player.proofs.ClearedLemmas.{lines_for_file, never_stops, capacity_for_file}
+use Rattle.player.proofs.StepLemmas.{steps_unstopped}
 use Rattle.player.proofs.playing.play_rows.Goals as goal
 
 pub play_steps-requires : goal.play_steps-requires
@@ -25,8 +26,9 @@ unreachable-requires g c =
     let cleared = c.args.cleared.now in
     let o = opened_of cleared.opened in
     let k = certificate_of cleared.certificate in
-    let s = c.args.machine.now.surface in
+    let m = c.args.machine.now in
+    let s = m.surface in
     let content = source_content c.source.result in
-    let frame : ShowsFrame (bound_of o k) = record { wide = cleared.opened.frame.wide; high = cleared.opened.frame.high } in
+    let frame : ShowsFrame (bound_of o k) = record { wide = cleared.opened.fine_frame.wide; high = cleared.opened.fine_frame.high } in
     let never : stop_of content (start_of o) s ≡ None = never_stops c.answer_law.ensures o cleared.opened.records.now k cleared.checked c.size_law.ensures s frame c.requires.ready.within content c.source.ensures.content in
-    c.in-Err.ensures.refusal (rw c.requires.start.state never)
+    c.in-Err.ensures.refusal (steps_unstopped content m.state s (rw c.requires.start.state never))

@@ -6,9 +6,12 @@ use Rattle.meta_headers.specs.OpenedOf.{opened_of}
 use Rattle.meta_headers.specs.Opening.{surface_for}
 use Rattle.meta_headers.specs.SourceContent.{source_content}
 use Rattle.object_tables.specs.Table.{TableKind}
-use Rattle.dc_stack.specs.State.{start_state}
+use Rattle.dc_stack.specs.State.{State, start_state}
+use Rattle.preflight_cert.specs.After.{uses_after}
+use Rattle.preflight_cert.specs.CertificateReading.{rules_in}
 use Rattle.preflight_cert.proofs.ClearedLemmas.{records_counted}
-use Rattle.preflight_cert.proofs.PreparedLemmas.{gathered_text, held, least_certificate, records_prepared, records_read, capacity, short}
+use Rattle.preflight_cert.proofs.PreparedLemmas.{gathered_text, held, least_certificate, records_prepared, records_read, bound_back, capacity, short, text_back, text_is}
+use Rattle.preflight_cert.proofs.RulesLemmas.{rules_again}
 use Rattle.preflight_cert.proofs.StartLemmas.{IsAtStart}
 use Rattle.preflight_cert.proofs.preparing.prepare_opened.Goals as goal
 
@@ -20,7 +23,7 @@ finish-requires c =
     let w = c.args.max_width in
     let h = c.args.max_height in
     let m = c.new-machine.result in
-    let state = c.new-machine.ensures.state ∙ ap (λ (kind : TableKind). start_state (map_numbers opened.start_map) kind) c.new-table.ensures.kind in
+    let state = c.new-machine.ensures.state ∙ ap (λ (kind : TableKind). start_state opened.rules (map_numbers opened.start_map) kind) c.new-table.ensures.kind in
     let at : IsAtStart o (surface_for o w h) m = record { state = state; surface = c.new-machine.ensures.surface ∙ c.new-place.ensures.surface; needs = c.new-machine.ensures.needs } in
     let content = source_content c.source.result in
     let made = c.in-Ok-gather.ensures in
@@ -31,13 +34,13 @@ finish-requires c =
 
 pub returns-in-Ok-finish : goal.returns-in-Ok-finish
 returns-in-Ok-finish c =
-    let handles : IfSome (opened_of c.args.opened).handles (λ n. n < 2 ^ 16) = search rules in
+    let handles : IfSome (opened_of c.args.opened).handles (λ n. n < 2 ^ 16) = c.handles_law.ensures in
     let opened = c.args.opened in
     let o = opened_of opened in
     let w = c.args.max_width in
     let h = c.args.max_height in
     let m = c.new-machine.result in
-    let state = c.new-machine.ensures.state ∙ ap (λ (kind : TableKind). start_state (map_numbers opened.start_map) kind) c.new-table.ensures.kind in
+    let state = c.new-machine.ensures.state ∙ ap (λ (kind : TableKind). start_state opened.rules (map_numbers opened.start_map) kind) c.new-table.ensures.kind in
     let at : IsAtStart o (surface_for o w h) m = record { state = state; surface = c.new-machine.ensures.surface ∙ c.new-place.ensures.surface; needs = c.new-machine.ensures.needs } in
     let content = source_content c.source.result in
     let noted = c.of-noted.result.counts in
@@ -51,13 +54,18 @@ returns-in-Ok-finish c =
     let text = c.in-Ok-finish.text.items in
     let entries = (least_certificate content o w h).entries in
     let holds = held content o opened.records.now w h m c.source.ensures.content at noted totals new before after none gathers in
-    let written : text ≡ gathered_text w h totals.writes new.needs after.version entries = rw c.needs.ensures at (c.in-Ok-finish.ensures entries holds) in
+    let written : text ≡ gathered_text o.rules w h totals.writes new.needs after.version entries = rw c.needs.ensures at (c.in-Ok-finish.ensures entries holds) in
     let fits : totals.writes < 2 ^ 64 = search rules in
     record {
       text = records_prepared content o opened.records.now w h m c.source.ensures.content at noted totals new before after none gathers text written c.box_law.ensures;
       accepted = records_read content o opened.records.now w h m c.source.ensures.content at noted totals new before after none gathers text written
           c.box_law.ensures c.need_law.ensures c.preparation_law.ensures c.text_law.ensures c.answer_law.ensures c.requires.wide c.requires.high handles fits few;
-      counts = records_counted c.content_law.ensures content o opened.records.now c.source.ensures.content noted totals c.of-noted.ensures gathers.records gathers.notes;
+      sides = bound_back content o opened.records.now w h m c.source.ensures.content at noted totals new before after none gathers text
+          (text_back content o opened.records.now w h m c.source.ensures.content at noted totals new before after none gathers text written
+          c.need_law.ensures c.text_law.ensures c.requires.wide c.requires.high handles fits few);
+      counts = records_counted c.content_law.ensures content o opened.records.now c.source.ensures.content noted totals c.of-noted.ensures gathers.records gathers.notes (gathers.uses ∙ ap (λ (s : State). uses_after content.steps s) state);
+      rules = ap rules_in (text_is content o opened.records.now w h m c.source.ensures.content at noted totals new before after none gathers text written)
+          ∙ rules_again c.text_law.ensures opened.rules (least_certificate content o w h);
       refusal = tt;
       number_reported = tt;
     }

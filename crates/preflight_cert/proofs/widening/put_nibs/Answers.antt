@@ -17,8 +17,8 @@ returns c entries single stand =
     let apart = c.spread.new.bytes in
     let held : old.len ≡ length old.items = search rules in
     let count : c.saturating_sub-count.result / 20 ≡ length entries =
-    ap (λ (n : ℕ). n / 20) c.saturating_sub-count.ensures ∙ ap (λ (n : ℕ). (n - 40) / 20) (c.len.ensures ∙ held) ∙ counted Mpc1 old.items entries stand in
-    let size = sized Mpc1 old.items entries stand in
+    ap (λ (n : ℕ). n / 20) c.saturating_sub-count.ensures ∙ ap (λ (n : ℕ). (n - 40) / 20) (c.len.ensures ∙ held) ∙ counted 40 Mpc1 old.items entries stand in
+    let size = sized 40 Mpc1 old.items entries stand in
     let had = stand.capacity in
     let n = 40 + 24 * (c.saturating_sub-count.result / 20) in
     let noughts : List ℕ = replicate (n - length old.items) 0 in
@@ -30,6 +30,6 @@ returns c entries single stand =
     take_rest now 40 ∙ ap (λ (bytes : List ℕ). drop 40 bytes) items ∙ longer old.items entries n (n - length old.items) stand long in
     let part : length apart ≡ length now - 40 = c.spread.ensures.len ∙ ap length (take_rest now 40) ∙ length-drop 40 now in
     let wide = c.spread.ensures.entries entries noughts (sym count) single slice in
-    subst (λ (bytes : List ℕ). StandIn Mpc2 bytes entries)
+    subst (λ (bytes : List ℕ). StandIn 40 Mpc2 bytes entries)
     (sym (with_items_is new (put_mid 40 (length now - 40) now apart) (length_put now apart capacity part ∙ c.deref_mut.ensures.len)))
     (nibs_stand now apart entries capacity part wide)

@@ -1,10 +1,26 @@
-use Rattle.std.proofs.Common.{◌∙◌}
+use Rattle.std.proofs.Common.{◌∙◌, subst, sym}
 use Rattle.point_views.specs.Points.{points_of}
 use Rattle.point_views.specs.Polys.{lists_of}
 use Rattle.dc_stack.specs.declared.projection.Projection.{Projection}
-use Rattle.painting.proofs.LandingLemmas.{lands_there, start_and_list_land}
+use Rattle.span_fill.specs.Lines.{IsNearPoint}
+use Rattle.painting.proofs.LandingLemmas.{fits_there, lands_there, start_and_list_land, start_lands}
 use Rattle.painting.proofs.PaintedFigureLemmas.{listed_land, listed_lines, through_lines}
 use Rattle.painting.proofs.figure_outline.FigureOutline.new.Goals as goal
+
+pub at-requires : goal.at-requires
+at-requires g c =
+    let by : Projection = record { map = c.in-Through.map; place = c.place-place.result } in
+    let s = c.args.machine.now.surface in
+    let lands = rw c.in-Through.is at c.requires.land in
+    fits_there c.place-place.result s c.in-Through.from c.place-place.ensures (start_lands by s c.place-place.ensures c.in-Through.from (points_of c.in-Through.points) lands)
+
+pub from-requires-clause-near : goal.from-requires-clause-near
+from-requires-clause-near g c =
+    let by : Projection = record { map = c.in-Through.map; place = c.place-place.result } in
+    let s = c.args.machine.now.surface in
+    let lands = rw c.in-Through.is at c.requires.land in
+    let near = (start_and_list_land by s c.place-place.ensures c.in-Through.from (points_of c.in-Through.points) lands).0 in
+    subst IsNearPoint (sym (lands_there c.place-place.result s c.in-Through.from c.at.result c.place-place.ensures c.at.ensures)) near
 
 pub from-requires-clause-land : goal.from-requires-clause-land
 from-requires-clause-land g c =

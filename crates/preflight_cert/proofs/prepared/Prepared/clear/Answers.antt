@@ -14,6 +14,7 @@ returns-clause-sound c =
       certificate = c.in-Ok.certificate;
       records = self.records;
       notes = self.notes;
+      uses = self.uses;
       checked = self.cleared (certificate_of c.in-Ok.certificate) (search rules);
       counted = self.counted;
     })

@@ -1,0 +1,31 @@
+-- Sets of rules, and what they allow.
+use Rattle.std.specs.Prelude.{Bool, true, false, ◌&&◌, ◌||◌, not, if◌then◌else◌}
+use Rattle.draw_ops.specs.declared.rules.Profile.{Profile}
+use Rattle.draw_ops.specs.declared.rules.Profile.TheVariants.{Core, Print}
+use Rattle.draw_ops.specs.declared.rules.Rules.{Rules}
+
+-- the default rules: the core profile, with nothing allowed
+abbrev pub core_rules : Rules
+core_rules = record { profile = Core; allowed = record { held_deletion = false; emf_plus = false } }
+
+-- the profile has a plane that counts parts of a unit
+abbrev pub is_fine : Profile → Bool
+is_fine Core = false
+is_fine Print = true
+
+-- the plane counts parts of a unit of the frame
+abbrev pub has_fine_plane : Rules → Bool
+has_fine_plane rules = is_fine rules.profile
+
+-- the rules in force: under the core profile nothing is allowed
+abbrev pub in_force : Rules → Rules
+in_force rules = if has_fine_plane rules then rules else core_rules
+
+-- a selected object may be deleted: under the print profile, if that is allowed
+abbrev pub allows_held_deletion : Rules → Bool
+allows_held_deletion rules = has_fine_plane rules && rules.allowed.held_deletion
+
+-- a file may contain EMF+ and draw nothing by its own records: always under the core profile, and under the print
+-- profile if that is allowed
+abbrev pub allows_emf_plus : Rules → Bool
+allows_emf_plus rules = not (has_fine_plane rules) || rules.allowed.emf_plus

@@ -1,0 +1,79 @@
+//! The rules by which a file is opened and played.
+
+ghost use Rattle.std.specs.Prelude.{◌≡◌};
+
+/// Which rules apply.
+#[derive(Clone, Copy, Debug, PartialEq, Eq)]
+pub enum Profile {
+    /// The default. The plane counts the units of a file's frame.
+    Core,
+    /// For surfaces that are larger than the frame. The plane counts parts of a unit of the frame.
+    Print,
+}
+
+/// What the print profile accepts only if it is allowed.
+#[derive(Clone, Copy, Debug, PartialEq, Eq)]
+pub struct Allowances {
+    /// The deletion of an object that is selected: what is selected keeps its values.
+    pub held_deletion: bool,
+    /// An EMF file that contains EMF+ and whose own records draw nothing.
+    pub emf_plus: bool,
+}
+
+/// The rules under which a file is opened and played: a profile, and what is allowed under it. The core profile ignores
+/// what is allowed.
+#[derive(Clone, Copy, Debug, PartialEq, Eq)]
+pub struct Rules {
+    pub profile: Profile,
+    pub allowed: Allowances,
+}
+
+impl Allowances {
+    /// Nothing is allowed.
+    pub const NONE: Allowances = Allowances {
+        held_deletion: false,
+        emf_plus: false,
+    };
+}
+
+impl Rules {
+    ghost use Rattle.draw_ops.specs.RuleSets.{allows_emf_plus, allows_held_deletion, has_fine_plane, in_force};
+
+    /// The core profile.
+    pub const CORE: Rules = Rules {
+        profile: Profile::Core,
+        allowed: Allowances::NONE,
+    };
+
+    /// Whether the plane counts parts of a unit of the frame.
+    pub fn has_fine_plane(self) -> bool
+        ensures { result ≡ has_fine_plane self }
+    {
+        self.profile == Profile::Print
+    }
+
+    /// The rules in force: under the core profile nothing is allowed.
+    pub fn in_force(self) -> Rules
+        ensures { result ≡ in_force self }
+    {
+        if self.has_fine_plane() {
+            self
+        } else {
+            Rules::CORE
+        }
+    }
+
+    /// Whether a selected object may be deleted.
+    pub fn allows_held_deletion(self) -> bool
+        ensures { result ≡ allows_held_deletion self }
+    {
+        self.has_fine_plane() && self.allowed.held_deletion
+    }
+
+    /// Whether an EMF file that contains EMF+ may draw nothing by its own records.
+    pub fn allows_emf_plus(self) -> bool
+        ensures { result ≡ allows_emf_plus self }
+    {
+        !self.has_fine_plane() || self.allowed.emf_plus
+    }
+}

@@ -1,0 +1,38 @@
+-- A point's coordinates are those of its axes.
+use Rattle.std.proofs.Common.{ℤ, ◌∙◌, FitsSigned, to_z, of_z, rules, subst, sym}
+use Rattle.std.specs.Int.{w32}
+use Rattle.mapping.specs.PageMap.{axis_numbers}
+use Rattle.mapping.specs.Plane.{IsPlaneCoordinate, plane_coordinate}
+use Rattle.mapping.proofs.PagePointLemmas.{in_bits, in_parts, same_point}
+use Rattle.mapping.proofs.page_map.PageMap.at_in_parts.Goals as goal
+
+pub at-requires : goal.at-requires
+at-requires c =
+    let map = c.args.self.now in
+    let point = c.args.point in
+    let column_fits : FitsSigned w32 point.x = search rules in
+    let column = in_parts c.fine_x.result map.x map.parts _ _ c.fine_x.ensures.axis c.fine_x.ensures.parts (in_bits point.x column_fits) in
+    subst (λ (n : ℤ). IsPlaneCoordinate n) (sym column) c.requires.x
+
+pub at-requires-2 : goal.at-requires-2
+at-requires-2 c =
+    let map = c.args.self.now in
+    let point = c.args.point in
+    let row_fits : FitsSigned w32 point.y = search rules in
+    let row = in_parts c.fine_y.result map.y map.parts _ _ c.fine_y.ensures.axis c.fine_y.ensures.parts (in_bits point.y row_fits) in
+    subst (λ (n : ℤ). IsPlaneCoordinate n) (sym row) c.requires.y
+
+pub returns : goal.returns
+returns c =
+    let map = c.args.self.now in
+    let point = c.args.point in
+    let x_fits : FitsSigned w32 c.at.result = search rules in
+    let y_fits : FitsSigned w32 c.at-2.result = search rules in
+    let column_fits : FitsSigned w32 point.x = search rules in
+    let row_fits : FitsSigned w32 point.y = search rules in
+    let column = in_parts c.fine_x.result map.x map.parts _ _ c.fine_x.ensures.axis c.fine_x.ensures.parts (in_bits point.x column_fits) in
+    let row = in_parts c.fine_y.result map.y map.parts _ _ c.fine_y.ensures.axis c.fine_y.ensures.parts (in_bits point.y row_fits) in
+    same_point (to_z w32 (of_z w32 c.at.result)) (to_z w32 (of_z w32 c.at-2.result))
+    (plane_coordinate (axis_numbers map.parts map.x) point.x) (plane_coordinate (axis_numbers map.parts map.y) point.y)
+    (in_bits c.at.result x_fits ∙ c.at.ensures ∙ column)
+    (in_bits c.at-2.result y_fits ∙ c.at-2.ensures ∙ row)

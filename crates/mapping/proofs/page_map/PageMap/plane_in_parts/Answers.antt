@@ -1,0 +1,62 @@
+-- A point is on the plane if both coordinates are.
+use Rattle.std.proofs.Common.{ℤ, ◌∙◌, FitsSigned, to_z, of_z, ap, rules, subst, sym}
+use Rattle.std.specs.Int.{w32, w64}
+use Rattle.mapping.specs.Limits.{is_within, plane_limit}
+use Rattle.mapping.specs.PageMap.{axis_numbers}
+use Rattle.mapping.specs.Plane.{IsPlaneCoordinate, plane_coordinate}
+use Rattle.mapping.proofs.PagePointLemmas.{both, first_fails, in_bits, in_parts, same_point, second_fails, wide_bits}
+use Rattle.mapping.proofs.page_map.PageMap.plane_in_parts.Goals as goal
+
+pub returns-clause-test : goal.returns-clause-test
+returns-clause-test c =
+    let map = c.args.self.now in
+    let column_fits : FitsSigned w64 c.args.x = search rules in
+    let row_fits : FitsSigned w64 c.args.y = search rules in
+    let column = in_parts c.fine_x.result map.x map.parts _ _ c.fine_x.ensures.axis c.fine_x.ensures.parts (wide_bits c.args.x column_fits) in
+    let row = in_parts c.fine_y.result map.y map.parts _ _ c.fine_y.ensures.axis c.fine_y.ensures.parts (wide_bits c.args.y row_fits) in
+    both _ _ (c.in-Some.ensures.test ∙ ap (is_within plane_limit) column) (c.in-Some-plane.ensures.test ∙ ap (is_within plane_limit) row)
+
+pub returns-in_default-clause-test : goal.returns-in_default-clause-test
+returns-in_default-clause-test c =
+    let map = c.args.self.now in
+    let column_fits : FitsSigned w64 c.args.x = search rules in
+    let column = in_parts c.fine_x.result map.x map.parts _ _ c.fine_x.ensures.axis c.fine_x.ensures.parts (wide_bits c.args.x column_fits) in
+    first_fails _ _ (c.in_default.ensures.test ∙ ap (is_within plane_limit) column)
+
+pub returns-in_default-plane-clause-test : goal.returns-in_default-plane-clause-test
+returns-in_default-plane-clause-test c =
+    let map = c.args.self.now in
+    let row_fits : FitsSigned w64 c.args.y = search rules in
+    let row = in_parts c.fine_y.result map.y map.parts _ _ c.fine_y.ensures.axis c.fine_y.ensures.parts (wide_bits c.args.y row_fits) in
+    second_fails _ _ (c.in_default-plane.ensures.test ∙ ap (is_within plane_limit) row)
+
+pub returns-clause-point : goal.returns-clause-point
+returns-clause-point c =
+    let map = c.args.self.now in
+    let column_fits : FitsSigned w64 c.args.x = search rules in
+    let row_fits : FitsSigned w64 c.args.y = search rules in
+    let x_fits : FitsSigned w32 c.in-Some.x = search rules in
+    let y_fits : FitsSigned w32 c.in-Some-plane.y = search rules in
+    let column = in_parts c.fine_x.result map.x map.parts _ _ c.fine_x.ensures.axis c.fine_x.ensures.parts (wide_bits c.args.x column_fits) in
+    let row = in_parts c.fine_y.result map.y map.parts _ _ c.fine_y.ensures.axis c.fine_y.ensures.parts (wide_bits c.args.y row_fits) in
+    let x = c.in-Some.ensures.value in
+    let y = c.in-Some-plane.ensures.value in (
+      record { x = subst (λ (n : ℤ). IsPlaneCoordinate n) column x.0; y = subst (λ (n : ℤ). IsPlaneCoordinate n) row y.0 },
+      same_point (to_z w32 (of_z w32 c.in-Some.x)) (to_z w32 (of_z w32 c.in-Some-plane.y))
+          (plane_coordinate (axis_numbers map.parts map.x) c.args.x) (plane_coordinate (axis_numbers map.parts map.y) c.args.y)
+          (in_bits c.in-Some.x x_fits ∙ x.1 ∙ column) (in_bits c.in-Some-plane.y y_fits ∙ y.1 ∙ row),
+    )
+
+pub returns-in_default-clause-point : goal.returns-in_default-clause-point
+returns-in_default-clause-point c = λ on.
+    let map = c.args.self.now in
+    let column_fits : FitsSigned w64 c.args.x = search rules in
+    let column = in_parts c.fine_x.result map.x map.parts _ _ c.fine_x.ensures.axis c.fine_x.ensures.parts (wide_bits c.args.x column_fits) in
+    c.in_default.ensures.value (subst (λ (n : ℤ). IsPlaneCoordinate n) (sym column) on.x)
+
+pub returns-in_default-plane-clause-point : goal.returns-in_default-plane-clause-point
+returns-in_default-plane-clause-point c = λ on.
+    let map = c.args.self.now in
+    let row_fits : FitsSigned w64 c.args.y = search rules in
+    let row = in_parts c.fine_y.result map.y map.parts _ _ c.fine_y.ensures.axis c.fine_y.ensures.parts (wide_bits c.args.y row_fits) in
+    c.in_default-plane.ensures.value (subst (λ (n : ℤ). IsPlaneCoordinate n) (sym row) on.y)
