@@ -11,7 +11,7 @@ from instruction_counts import FILES, count, is_within, most_of, on_record  # no
 
 
 # Files whose page map scales, and how many times its instructions under the core profile such a file may take under the print profile.
-SCALED, MOST_PRINT = ["100,000 points on a map that scales, 64 by 64", "20 strokes beside a narrow surface, 16 by 64"], 1.3
+SCALED, MOST_PRINT = ["100,000 points on a map that scales, 64 by 64", "20 strokes beside a narrow surface, 16 by 64"], 1.15
 
 
 class Instructions(unittest.TestCase):

@@ -7,7 +7,7 @@ ghost use Rattle.mapping.specs.Plane.{IsPlaneCoordinate};
 
 use crate::floor::{floor_quotient, wide_floor_quotient};
 use crate::page_axis::{
-    PageAxis, distance, on_plane, product, wide_distance, wide_on_plane, wide_product,
+    PageAxis, distance, on_plane, plane_number, product, wide_distance, wide_on_plane, wide_product,
 };
 
 /// Numbers below this can be multiplied by any number of parts in 64 bits. Scaled distances of this many units or more lie
@@ -31,6 +31,7 @@ impl FineAxis {
     ghost use Rattle.mapping.specs.PageMap.{fine_coordinate, fine_distance, scaled_distance};
 
     /// The plane coordinate of a page coordinate. `None` if it would leave the plane.
+    #[inline]
     pub(crate) fn plane(&self, coordinate: i64) -> Option<i32>
         ensures value { let v = fine_coordinate self.now coordinate in SomeIff result (IsPlaneCoordinate v) v }
         ensures test { is_some result ≡ is_within plane_limit (fine_coordinate self.now coordinate) }
@@ -42,6 +43,7 @@ impl FineAxis {
     }
 
     /// The same for a coordinate of 32 bits. Mostly one division is enough.
+    #[inline]
     fn near_plane(&self, coordinate: i32) -> Option<i32>
         ensures value { let v = fine_coordinate self.now coordinate in SomeIff result (IsPlaneCoordinate v) v }
         ensures test { is_some result ≡ is_within plane_limit (fine_coordinate self.now coordinate) }
@@ -54,6 +56,7 @@ impl FineAxis {
     }
 
     /// The same if the product of distance and extent may be too large to be multiplied by the number of parts.
+    #[inline(never)]
     fn far_plane(&self, coordinate: i32) -> Option<i32>
         ensures value { let v = fine_coordinate self.now coordinate in SomeIff result (IsPlaneCoordinate v) v }
         ensures test { is_some result ≡ is_within plane_limit (fine_coordinate self.now coordinate) }
@@ -85,17 +88,32 @@ impl FineAxis {
     }
 
     /// The plane coordinate of a page coordinate that doesn't leave the plane.
+    #[inline]
     pub(crate) fn at(&self, coordinate: i32) -> i32
         requires { IsPlaneCoordinate (fine_coordinate self.now coordinate) }
         ensures { result ≡ fine_coordinate self.now coordinate }
     {
-        match self.near_plane(coordinate) {
+        let product = self.product(coordinate);
+        if product.unsigned_abs() >= FAR {
+            return self.far_at(coordinate);
+        }
+        plane_number(self.short_in_parts(coordinate, product), self.shift())
+    }
+
+    /// The same if the product of distance and extent may be too large to be multiplied by the number of parts.
+    #[inline(never)]
+    fn far_at(&self, coordinate: i32) -> i32
+        requires { IsPlaneCoordinate (fine_coordinate self.now coordinate) }
+        ensures { result ≡ fine_coordinate self.now coordinate }
+    {
+        match self.far_plane(coordinate) {
             Some(there) => there,
             None => unreachable!(),
         }
     }
 
     /// The same as `plane`, computed in 128 bits.
+    #[inline(never)]
     fn wide_plane(&self, coordinate: i64) -> Option<i32>
         ensures value { let v = fine_coordinate self.now coordinate in SomeIff result (IsPlaneCoordinate v) v }
         ensures test { is_some result ≡ is_within plane_limit (fine_coordinate self.now coordinate) }

@@ -179,7 +179,7 @@ pub(crate) fn wide_product(distance: i128, extent: i128) -> i128
 
 /// The plane coordinate from a scaled distance and a shift.
 #[tactic(auto, unfolding(crate::specs::Limits::plane_limit))]
-fn plane_number(scaled: i64, shift: i64) -> i32
+pub(crate) fn plane_number(scaled: i64, shift: i64) -> i32
     requires there { IsPlaneCoordinate (scaled +ℤ shift) }
     ensures { result ≡ scaled +ℤ shift }
 {

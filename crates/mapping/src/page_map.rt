@@ -159,6 +159,7 @@ impl PageMap {
     }
 
     /// The same for any number of parts.
+    #[inline]
     fn plane_in_parts(&self, x: i64, y: i64) -> Option<Point>
         ensures point { let there = plane_point (map_numbers self.now) x y in SomeIff result (IsOnPlane there) there }
         ensures test { is_some result ≡ is_on_plane (plane_point (map_numbers self.now) x y) }
@@ -199,6 +200,7 @@ impl PageMap {
     }
 
     /// The plane point of a page point that doesn't leave the plane, for any number of parts.
+    #[inline]
     pub fn at_in_parts(&self, point: Point) -> Point
         requires { IsOnPlane (plane_point (map_numbers self.now) point.x point.y) }
         ensures { result ≡ plane_point (map_numbers self.now) point.x point.y }
@@ -210,6 +212,7 @@ impl PageMap {
     }
 
     /// The horizontal axis, in parts.
+    #[inline]
     pub(crate) fn fine_x(&self) -> FineAxis
         ensures axis { result.axis ≡ self.now.x }
         ensures parts { result.parts ≡ self.now.parts }
@@ -221,6 +224,7 @@ impl PageMap {
     }
 
     /// The vertical axis, in parts.
+    #[inline]
     pub(crate) fn fine_y(&self) -> FineAxis
         ensures axis { result.axis ≡ self.now.y }
         ensures parts { result.parts ≡ self.now.parts }
