@@ -8,8 +8,14 @@ import shutil
 import subprocess
 import tempfile
 
-from instruction_files import CLOSE, FILES
+import instruction_files
+from print_files import PRINT_FILES
 from writers import PROGRAM, ROOT
+
+FILES = instruction_files.FILES | PRINT_FILES
+
+# How many times the instructions on record a file may take at most, where that is less than for others.
+CLOSE = instruction_files.CLOSE | dict.fromkeys(PRINT_FILES, 1.15)
 
 RECORD = ROOT / "bench" / "instructions.json"
 

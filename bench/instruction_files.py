@@ -8,16 +8,18 @@ from writers import BETWEEN, EMF, MASKED, PATCOPY, PATINVERT, SRCCOPY, WMF, Bitm
 
 
 class Counted(NamedTuple):
-    """A file, and the surface that it is shown on, or that it is listed and not shown."""
+    """A file, and the surface that it is shown on, or that it is listed and not shown, with options."""
 
     given: bytes
     width: int
     height: int
     is_listed: bool = False
+    options: tuple[str, ...] = ()
 
     def words(self):
         """The words of the command that is counted, on a file named `file`."""
-        return ["list", "file"] if self.is_listed else ["show", "file", str(self.width), str(self.height)]
+        words = ["list", "file"] if self.is_listed else ["show", "file", str(self.width), str(self.height)]
+        return [*words, *self.options]
 
 
 # EMR_COMMENT, [MS-EMF] 2.3.3.

@@ -1,4 +1,4 @@
-"""The instructions that the built program takes on fifty-one files, beside those on record in bench/."""
+"""The instructions that the built program takes on fifty-six files, beside those on record in bench/."""
 
 import sys
 import unittest
@@ -15,11 +15,11 @@ SCALED, MOST_PRINT = ["100,000 points on a map that scales, 64 by 64", "20 strok
 
 
 class Instructions(unittest.TestCase):
-    """No file takes more than 1.3 times the instructions on record, fourteen no more than 1.15. The record is of the program as LLVM builds it."""
+    """No file takes more than 1.3 times the instructions on record, nineteen no more than 1.15. The record is of the program as LLVM builds it."""
 
     def test_a_record_stands_for_each_file(self):
         self.assertEqual(sorted(on_record()), sorted(FILES))
-        self.assertEqual(len(FILES), 51)
+        self.assertEqual(len(FILES), 56)
 
     def test_the_limit_is_1_3_times_the_record(self):
         self.assertTrue(is_within(1300, 1000))

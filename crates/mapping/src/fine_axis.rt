@@ -157,7 +157,7 @@ impl FineAxis {
         ensures value { result ≡ (self.now.axis.viewport_origin -ℤ self.now.axis.corner) *ℤ pos self.now.parts }
         ensures bound { unsigned_abs result < 2 ^ 44 }
     {
-        shift_in_parts(
+        times(
             distance(self.axis.viewport_origin, self.axis.corner),
             i64::from(self.parts),
         )
@@ -197,18 +197,9 @@ fn times(number: i64, parts: i64) -> i64
     requires parts_fit { unsigned_abs parts ≤ 2 ^ 12 }
     ensures value { result ≡ number *ℤ parts }
     ensures bound { unsigned_abs result < 2 ^ 57 }
+    ensures short { unsigned_abs number < 2 ^ 32 → unsigned_abs result < 2 ^ 44 }
 {
     number * parts
-}
-
-/// A distance in parts.
-fn shift_in_parts(distance: i64, parts: i64) -> i64
-    requires distance_fits { unsigned_abs distance < 2 ^ 32 }
-    requires parts_fit { unsigned_abs parts ≤ 2 ^ 12 }
-    ensures value { result ≡ distance *ℤ parts }
-    ensures bound { unsigned_abs result < 2 ^ 44 }
-{
-    distance * parts
 }
 
 /// A distance of more than 64 bits, in parts.

@@ -6,11 +6,11 @@ use Rattle.std.proofs.lemmas.Bool.{and_parts, eqb-true}
 use Rattle.std.proofs.lemmas.List.{append_assoc, append-nil, drop-append-le, drop-drop, drop-take, drop_all, drop_at, flat_map_more, length-append, length-drop, length-take-le, take-take, take_all}
 use Rattle.std.proofs.lemmas.List.Folds.{list_all-append}
 use Rattle.mapping.specs.declared.nib.Nib.{Nib}
-use Rattle.draw_ops.specs.RuleSets.{has_fine_plane}
+use Rattle.draw_ops.specs.RuleSets.{allowance_bits, has_fine_plane}
 use Rattle.draw_ops.specs.declared.rules.Rules.{Rules}
 use Rattle.span_fill.specs.WideStrokes.{one_pixel}
-use Rattle.preflight_cert.specs.CertificateReading.{entry_size, mark_of, print_mark}
-use Rattle.preflight_cert.specs.CertificateText.{HeadValue, allowed_number, entry_text, nib_text, number_text, text_with}
+use Rattle.preflight_cert.specs.CertificateReading.{entry_size, signature_of, print_signature}
+use Rattle.preflight_cert.specs.CertificateText.{HeadValue, entry_text, nib_text, number_text, text_with}
 use Rattle.preflight_cert.specs.DraftOf.{Adds, Holds, StandIn, space_for}
 use Rattle.preflight_cert.specs.Preparation.{have_single_pixels, version_for}
 use Rattle.preflight_cert.specs.TextParts.{bound_text, head_text, totals_text}
@@ -241,7 +241,7 @@ pub length-head : (rules : Rules) (version : Version) (head : HeadValue) (count 
 length-head rules version head count = by_profile (has_fine_plane rules)
   where
     by_profile : (fine : Bool)
-        → length (((if fine then number_text print_mark ++ number_text (allowed_number rules.allowed) else number_text (mark_of version)) ++ (number_text head.max_width ++ number_text head.max_height)) ++ totals_text head.writes head.needs count)
+        → length (((if fine then number_text print_signature ++ number_text (allowance_bits rules.allowed) else number_text (signature_of version)) ++ (number_text head.max_width ++ number_text head.max_height)) ++ totals_text head.writes head.needs count)
         ≡ (if fine then 44 else 40)
     by_profile true = omega arith
     by_profile false = omega arith

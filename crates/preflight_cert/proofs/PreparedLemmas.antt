@@ -201,7 +201,7 @@ module _ (content : Content) (o : OpenedValue) (records : List ℕ) (width heigh
         → totals.records ≤ 2 ^ 20 → read_certificate text ≡ Ok made
     text_back text written needs texts wide high handles fits few =
         ap read_certificate (text_is text written)
-        ∙ texts.reads_back o.rules made (is_certificate needs wide high handles fits few) (version_under o.rules made.entries)
+        ∙ texts.reads_back o.rules made (record { within = is_certificate needs wide high handles fits few; version = version_under o.rules made.entries })
 
     pub bound_back : (text : List ℕ) → read_certificate text ≡ Ok made → ForOk (read_certificate text) (HasBound width height)
     bound_back text back c read =

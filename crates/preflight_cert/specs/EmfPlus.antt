@@ -9,7 +9,7 @@ use Rattle.dc_stack.specs.State.{State}
 use Rattle.preflight_cert.specs.Drawings.{NumberedDrawing, drawings_of}
 use Rattle.preflight_cert.specs.declared.emf_plus.EmfPlus.{EmfPlus}
 
--- some record contains EMF+
+-- some record contains EMF+, which only comments of EMF files do ([MS-EMF] 2.3.3.2)
 abbrev pub have_emf_plus : List StepValue → Bool
 have_emf_plus [] = false
 have_emf_plus (step ∷ steps) = is_noted step.notes EmfPlusNote || have_emf_plus steps
