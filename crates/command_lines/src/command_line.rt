@@ -23,7 +23,8 @@ use std::alloc::{AllocError, Global};
 
 /// Parses the words of a command line, the program's name first, with `clap`. The error contains the text to show to
 /// the user; help is an error too. If the words are right for a command, or `clap` accepts them and what they give is
-/// right, parsing can fail only because an allocation failed. Words that ask for the version can't fail: they are compared here, and `clap` knows nothing of them.
+/// right, parsing can fail only because an allocation failed. Words that ask for the version can't fail: they are
+/// compared here, and `clap` knows nothing of them.
 pub fn line<'a>(alloc: Global, words: &'a [String]) -> Result<Asked<'a>, Error>
     ensures valid { IfOk result IsValid }
     ensures asked { IfOk result (IsAskedFor (texts_of words.entry.now)) }

@@ -60,7 +60,7 @@ impl Allowances {
 }
 
 impl Rules {
-    ghost use Rattle.draw_ops.specs.RuleSets.{allows_emf_plus, allows_held_deletion, has_fine_plane, in_force, print_rules};
+    ghost use Rattle.draw_ops.specs.RuleSets.{allows_emf_plus, allows_held_deletion, in_force, is_print, print_rules};
 
     /// The core profile.
     pub const CORE: Rules = Rules {
@@ -78,9 +78,9 @@ impl Rules {
         }
     }
 
-    /// Whether the plane counts parts of a unit of the frame.
-    pub fn has_fine_plane(self) -> bool
-        ensures { result ≡ has_fine_plane self }
+    /// Whether they are of the print profile, whose plane counts parts of a unit of the frame.
+    pub fn is_print(self) -> bool
+        ensures { result ≡ is_print self }
     {
         self.profile == Profile::Print
     }
@@ -89,7 +89,7 @@ impl Rules {
     pub fn in_force(self) -> Rules
         ensures { result ≡ in_force self }
     {
-        if self.has_fine_plane() {
+        if self.is_print() {
             self
         } else {
             Rules::CORE
@@ -100,13 +100,13 @@ impl Rules {
     pub fn allows_held_deletion(self) -> bool
         ensures { result ≡ allows_held_deletion self }
     {
-        self.has_fine_plane() && self.allowed.held_deletion
+        self.is_print() && self.allowed.held_deletion
     }
 
     /// Whether an EMF file that contains EMF+ may draw nothing by its own records.
     pub fn allows_emf_plus(self) -> bool
         ensures { result ≡ allows_emf_plus self }
     {
-        !self.has_fine_plane() || self.allowed.emf_plus
+        !self.is_print() || self.allowed.emf_plus
     }
 }

@@ -69,8 +69,8 @@ end_fault is_end rules found =
     if is_end && (is_emf_plus_alone rules found && not (allows_emf_plus rules)) then Some EmfPlusAlone else None
 
 -- The fault of a step in runs, which is that of the end record or not: the one in its operation on the largest surface,
--- or else that of EMF+ without a drawing. A run that stops at it on some surface has the same fault, or else a nib that
--- is too wide while it is off the plane on the largest. There is none after a record at which every run stops.
+-- or else that of EMF+ without a drawing. A run that stops at it on some surface has the same fault there, except that a
+-- nib may be too wide there which is off the plane on the largest. After a record at which every run stops there is none.
 abbrev pub run_fault : Bool → Option DryRunState → StepValue → Option RecordFault
 run_fault is_end None step = None
 run_fault is_end (Some dry_run_state) step =

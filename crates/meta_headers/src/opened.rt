@@ -91,7 +91,7 @@ fn parts_of_unit(rules: Rules, frame: &Frame) -> u16
     ensures few { result ≤ 4096 }
 {
     part_law();
-    if rules.has_fine_plane() {
+    if rules.is_print() {
         frame.parts()
     } else {
         1
@@ -103,7 +103,7 @@ fn frame_by(rules: Rules, frame: &Frame) -> Frame
     ensures width { result.width ≡ frame.now.width * parts_of_unit rules frame.now.width frame.now.height }
     ensures height { result.height ≡ frame.now.height * parts_of_unit rules frame.now.width frame.now.height }
 {
-    if rules.has_fine_plane() {
+    if rules.is_print() {
         frame.fine()
     } else {
         *frame

@@ -9,7 +9,7 @@ use Rattle.std.proofs.lemmas.List.Elements.{All-cons, All-drop, All-nil}
 use Rattle.mapping.specs.Limits.{is_surface_side}
 use Rattle.mapping.specs.Nibs.{is_nib, nib_true}
 use Rattle.mapping.proofs.LimitLemmas.{tests_are_limits}
-use Rattle.draw_ops.specs.RuleSets.{allowance_bits, allowances_in, allowances_of, has_fine_plane}
+use Rattle.draw_ops.specs.RuleSets.{allowance_bits, allowances_in, allowances_of, is_print}
 use Rattle.draw_ops.specs.declared.rules.Allowances.{Allowances}
 use Rattle.draw_ops.specs.declared.fault.Fault.{Fault}
 use Rattle.draw_ops.specs.declared.fault.Fault.TheVariants.{BadBound, NotCertificate, ShortCertificate, TrailingBytes}
@@ -303,10 +303,10 @@ within bytes c all e = by_profile (is_by_print bytes) refl
 later : (found : Option Version) (version : Version) → found ≡ Some Mpc2 → found ≡ Some version → version ≡ Mpc2
 later found version e f = cc
 
-has_version : (bytes : List ℕ) (c : CertificateValue) → read_certificate bytes ≡ Ok c → has_fine_plane (rules_in bytes) ≡ true → c.version ≡ Mpc2
+has_version : (bytes : List ℕ) (c : CertificateValue) → read_certificate bytes ≡ Ok c → is_print (rules_in bytes) ≡ true → c.version ≡ Mpc2
 has_version bytes c e fine = by_profile (is_by_print bytes) refl fine
   where
-    by_profile : (print : Bool) → is_by_print bytes ≡ print → has_fine_plane (rules_in bytes) ≡ true → c.version ≡ Mpc2
+    by_profile : (print : Bool) → is_by_print bytes ≡ print → is_print (rules_in bytes) ≡ true → c.version ≡ Mpc2
     by_profile false core fine = absurd (true≢false (sym fine ∙ rw core refl))
     by_profile true print fine =
         let h = (read_under_print bytes c print e).read in

@@ -10,7 +10,7 @@ use Rattle.mapping.specs.Limits.{is_surface_side}
 use Rattle.mapping.specs.Nibs.{is_nib, nib_from}
 use Rattle.mapping.specs.declared.nib.Nib.{Nib}
 use Rattle.mapping.proofs.LimitLemmas.{tests_are_limits}
-use Rattle.draw_ops.specs.RuleSets.{allowance_bits, allowances_in, allowances_of, core_rules, has_fine_plane, in_force, is_fine, print_rules}
+use Rattle.draw_ops.specs.RuleSets.{allowance_bits, allowances_in, allowances_of, core_rules, in_force, is_print, is_print_profile, print_rules}
 use Rattle.draw_ops.specs.declared.fault.Fault.{Fault}
 use Rattle.draw_ops.specs.declared.fault.Fault.TheVariants.{BadBound, NotCertificate, ShortCertificate}
 use Rattle.draw_ops.specs.declared.rules.Allowances.{Allowances}
@@ -289,14 +289,14 @@ abbrev text_where : Bool → Allowances → CertificateValue → List ℕ
 text_where fine allowed c = (if fine then codes "MPC3" ++ number_text (allowance_bits allowed) else version_signature c.version) ++ numbers_of c
 
 pub reads_back : (rules : Rules) (c : CertificateValue) → IsCertificateUnder rules c → read_certificate (certificate_text rules c) ≡ Ok c
-reads_back rules c is = by_profile (has_fine_plane rules) refl
+reads_back rules c is = by_profile (is_print rules) refl
   where
-    by_profile : (fine : Bool) → has_fine_plane rules ≡ fine → read_certificate (text_where fine rules.allowed c) ≡ Ok c
+    by_profile : (fine : Bool) → is_print rules ≡ fine → read_certificate (text_where fine rules.allowed c) ≡ Ok c
     by_profile true e = fine_back c is.within (is.version e) rules.allowed
     by_profile false e = core_back c is.within
 
 -- the rules under which it was made
-print_profile : (profile : Profile) → is_fine profile ≡ true → profile ≡ Print
+print_profile : (profile : Profile) → is_print_profile profile ≡ true → profile ≡ Print
 print_profile Core e = absurd (cc e)
 print_profile Print e = refl
 
@@ -320,8 +320,8 @@ allowed_in allowed rest =
     rw (print, here) (ap print_rules (allowed_back allowed))
 
 pub rules_back : (rules : Rules) (c : CertificateValue) → rules_in (certificate_text rules c) ≡ in_force rules
-rules_back rules c = by_profile (has_fine_plane rules) refl
+rules_back rules c = by_profile (is_print rules) refl
   where
-    by_profile : (fine : Bool) → has_fine_plane rules ≡ fine → rules_in (text_where fine rules.allowed c) ≡ (if fine then rules else core_rules)
+    by_profile : (fine : Bool) → is_print rules ≡ fine → rules_in (text_where fine rules.allowed c) ≡ (if fine then rules else core_rules)
     by_profile true e = allowed_in rules.allowed (numbers_of c) ∙ ap (λ (profile : Profile). ruled profile rules.allowed) (sym (print_profile rules.profile e))
     by_profile false e = rw (marked_core c.version (numbers_of c)) refl

@@ -4,7 +4,7 @@ use Rattle.std.specs.Option.{option_or}
 use Rattle.mapping.specs.Surface.{Surface}
 use Rattle.draw_ops.specs.Content.{Content, StepValue}
 use Rattle.draw_ops.specs.Operation.{Operation, delete, restore}
-use Rattle.draw_ops.specs.RuleSets.{allows_held_deletion, has_fine_plane}
+use Rattle.draw_ops.specs.RuleSets.{allows_held_deletion, is_print}
 use Rattle.draw_ops.specs.declared.record_fault.RecordFault.{RecordFault}
 use Rattle.draw_ops.specs.declared.record_fault.RecordFault.TheVariants.{HeldObject, NoSuchHandle}
 use Rattle.draw_ops.specs.declared.rules.Rules.{Rules}
@@ -37,7 +37,7 @@ not_used true false allowed core e = refl
 not_used false use_ allowed core e = absurd (cc e)
 
 -- then an operation without a fault isn't counted
-count_kept : (operation : Operation) (state : State) (s : Surface) → has_fine_plane state.rules ≡ false → fault_of operation state s ≡ None
+count_kept : (operation : Operation) (state : State) (s : Surface) → is_print state.rules ≡ false → fault_of operation state s ≡ None
     → (next operation state).held_deletions ≡ state.held_deletions
 count_kept (delete index) state s core none =
     let leave : allows_held_deletion state.rules ≡ false = rw core refl in
@@ -55,12 +55,12 @@ unstopped : (number : ℕ) (fault : Option RecordFault) (later : Option Stop) �
 unstopped number None later e = (refl, e)
 unstopped number (Some fault) later e = absurd (cc e)
 
-all_kept : (steps : List StepValue) (after : Option Stop) (state : State) (s : Surface) → has_fine_plane state.rules ≡ false → stopped steps after state s ≡ None
+all_kept : (steps : List StepValue) (after : Option Stop) (state : State) (s : Surface) → is_print state.rules ≡ false → stopped steps after state s ≡ None
     → (state_after steps state).held_deletions ≡ state.held_deletions
 all_kept [] after state s core none = refl
 all_kept (step ∷ steps) after state s core none =
     let parts = unstopped step.number (fault_of step.operation state s) (stopped steps after (next step.operation state) s) none in
-    let still : has_fine_plane (next step.operation state).rules ≡ false = ap (λ (rules : Rules). has_fine_plane rules) (rules_kept step.operation state) ∙ core in
+    let still : is_print (next step.operation state).rules ≡ false = ap (λ (rules : Rules). is_print rules) (rules_kept step.operation state) ∙ core in
     all_kept steps after (next step.operation state) s still parts.1 ∙ count_kept step.operation state s core parts.0
 
 -- EMF+ stops no run
@@ -68,7 +68,7 @@ or_none : (stop : Option Stop) → option_or stop None ≡ stop
 or_none None = refl
 or_none (Some stop) = refl
 
-ends : (content : Content) (state : State) → has_fine_plane state.rules ≡ false → end_of content state ≡ broken_after (length content.steps) content.fault
+ends : (content : Content) (state : State) → is_print state.rules ≡ false → end_of content state ≡ broken_after (length content.steps) content.fault
 ends content state core = rw core (or_none (broken_after (length content.steps) content.fault))
 
 pub core_laws : CoreLaws

@@ -11,7 +11,7 @@ use Rattle.mapping.specs.Surface.{Surface}
 use Rattle.draw_ops.specs.Content.{Content, StepValue}
 use Rattle.draw_ops.specs.NumberLaws.{StepsAreNumbered}
 use Rattle.draw_ops.specs.Records.{record_limit}
-use Rattle.draw_ops.specs.RuleSets.{has_fine_plane, in_force}
+use Rattle.draw_ops.specs.RuleSets.{in_force, is_print}
 use Rattle.draw_ops.specs.declared.rules.Rules.{Rules}
 use Rattle.draw_ops.specs.declared.fault.Fault.{Fault}
 use Rattle.dc_stack.specs.Drawing.{Drawing, drawing_of}
@@ -102,7 +102,7 @@ module _ (numbers : StepsAreNumbered) (needs : NeedLaws) (content : Content) (o 
         edges = most.edges;
         pieces = most.pieces;
         few = few_entries (length made.entries) (omega (arith, size, all));
-        entries = by_version (has_fine_plane o.rules) (have_single_pixels made.entries) made.entries refl fit;
+        entries = by_version (is_print o.rules) (have_single_pixels made.entries) made.entries refl fit;
       }
 
 module _ (boxes : BoxLaws) (numbers : StepsAreNumbered) (opening : OpeningLaws) (needs : NeedLaws) (preparation : PreparationLaws) (texts : TextLaws) (answers : AnswerLaws) where
@@ -115,7 +115,7 @@ module _ (boxes : BoxLaws) (numbers : StepsAreNumbered) (opening : OpeningLaws) 
     its_limits = subst IsCertificate is_made (within numbers needs p.content o (record_bytes o.format file) p.of_records width height wide high (opening.handles rules file o are opens) p.unstopped)
 
     is_under : (rules : Rules) → o.rules ≡ rules → IsCertificateUnder rules p.certificate
-    is_under rules e = record { within = its_limits; version = λ fine. p.is_prepared.version ∙ version_under o.rules p.certificate.entries (ap has_fine_plane e ∙ fine) }
+    is_under rules e = record { within = its_limits; version = λ fine. p.is_prepared.version ∙ version_under o.rules p.certificate.entries (ap is_print e ∙ fine) }
 
     its_rules : o.rules ≡ in_force rules
     its_rules = opening.in_force rules file o opens

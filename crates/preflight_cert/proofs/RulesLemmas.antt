@@ -1,7 +1,7 @@
 -- The rules that are in force, and those that are read.
 use Rattle.std.proofs.Common.{◌≡◌, ℕ, List, Bool, true, false, Result, Ok, refl, ap, sym, ◌∙◌}
 use Rattle.draw_ops.specs.Results.{result_map}
-use Rattle.draw_ops.specs.RuleSets.{has_fine_plane, in_force}
+use Rattle.draw_ops.specs.RuleSets.{in_force, is_print}
 use Rattle.draw_ops.specs.declared.rules.Rules.{Rules}
 use Rattle.meta_headers.specs.Headers.{OpenedValue}
 use Rattle.meta_headers.specs.Opening.{opened}
@@ -10,9 +10,9 @@ use Rattle.preflight_cert.specs.CertificateReading.{is_by_print, rules_in}
 
 -- the rules in force are in force
 pub in_force_twice : (rules : Rules) → in_force (in_force rules) ≡ in_force rules
-in_force_twice rules = by_profile (has_fine_plane rules) refl
+in_force_twice rules = by_profile (is_print rules) refl
   where
-    by_profile : (fine : Bool) → has_fine_plane rules ≡ fine → in_force (in_force rules) ≡ in_force rules
+    by_profile : (fine : Bool) → is_print rules ≡ fine → in_force (in_force rules) ≡ in_force rules
     by_profile true e = let force : in_force rules ≡ rules = rw e refl in ap in_force force
     by_profile false e = rw e refl
 

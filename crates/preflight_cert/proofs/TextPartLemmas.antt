@@ -2,7 +2,7 @@
 use Rattle.std.proofs.Common.{◌≡◌, ℕ, Bool, true, false, if◌then◌else◌, List, [], ◌++◌, refl, ap, ◌∙◌}
 use Rattle.std.proofs.lemmas.List.{append_assoc}
 use Rattle.std.specs.Prelude.{codes}
-use Rattle.draw_ops.specs.RuleSets.{allowance_bits, has_fine_plane}
+use Rattle.draw_ops.specs.RuleSets.{allowance_bits, is_print}
 use Rattle.draw_ops.specs.declared.rules.Rules.{Rules}
 use Rattle.preflight_cert.specs.CertificateReading.{signature_of, print_signature}
 use Rattle.preflight_cert.specs.CertificateText.{HeadValue, version_signature, number_text, signature_text, text_with}
@@ -22,7 +22,7 @@ unfolding print_signature
 print_is_mark = refl
 
 numbers_are_signature : (rules : Rules) (version : Version) → signature_numbers rules version ≡ signature_text rules version
-numbers_are_signature rules version = by_profile (has_fine_plane rules)
+numbers_are_signature rules version = by_profile (is_print rules)
   where
     by_profile : (fine : Bool) → (if fine then number_text print_signature ++ number_text (allowance_bits rules.allowed) else number_text (signature_of version))
         ≡ (if fine then codes "MPC3" ++ number_text (allowance_bits rules.allowed) else version_signature version)

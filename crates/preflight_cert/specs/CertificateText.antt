@@ -4,7 +4,7 @@ use Rattle.std.specs.Int.{w16, w32, w64, cast_unsigned, to_le_bytes}
 use Rattle.std.specs.List.{flat_map}
 use Rattle.mapping.specs.declared.geometry.Rect.{Rect}
 use Rattle.mapping.specs.declared.nib.Nib.{Nib}
-use Rattle.draw_ops.specs.RuleSets.{allowance_bits, has_fine_plane}
+use Rattle.draw_ops.specs.RuleSets.{allowance_bits, is_print}
 use Rattle.draw_ops.specs.declared.rules.Rules.{Rules}
 use Rattle.dc_stack.specs.declared.needs.Needs.{Needs}
 use Rattle.preflight_cert.specs.CertificateReading.{CertificateValue}
@@ -58,7 +58,7 @@ numbers_with head count entries =
 -- what stands before those numbers: the signature, and under the print profile what is allowed
 abbrev pub signature_text : Rules → Version → List ℕ
 signature_text rules version =
-    if has_fine_plane rules then codes "MPC3" ++ number_text (allowance_bits rules.allowed) else version_signature version
+    if is_print rules then codes "MPC3" ++ number_text (allowance_bits rules.allowed) else version_signature version
 
 -- the bytes of a certificate with these numbers and the bytes of its entries
 abbrev pub text_with : Rules → Version → HeadValue → ℕ → List ℕ → List ℕ

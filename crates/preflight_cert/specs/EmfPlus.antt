@@ -2,7 +2,7 @@
 use Rattle.std.specs.Prelude.{Bool, true, false, ◌&&◌, ◌||◌, not, List, [], ◌∷◌}
 use Rattle.draw_ops.specs.Content.{StepValue}
 use Rattle.draw_ops.specs.NoteKinds.{is_noted}
-use Rattle.draw_ops.specs.RuleSets.{has_fine_plane}
+use Rattle.draw_ops.specs.RuleSets.{is_print}
 use Rattle.draw_ops.specs.declared.note.Note.TheVariants.{EmfPlus as EmfPlusNote}
 use Rattle.draw_ops.specs.declared.rules.Rules.{Rules}
 use Rattle.dc_stack.specs.State.{State}
@@ -25,7 +25,7 @@ have_drawing steps state = is_drawn (drawings_of steps state)
 
 -- records contain EMF+ and don't draw, which only the print profile looks at
 abbrev pub is_emf_plus_alone : Rules → EmfPlus → Bool
-is_emf_plus_alone rules found = has_fine_plane rules && (found.is_contained && not found.is_drawn)
+is_emf_plus_alone rules found = is_print rules && (found.is_contained && not found.is_drawn)
 
 -- whether records contain EMF+, and whether they draw
 abbrev pub emf_plus_of : List StepValue → State → EmfPlus

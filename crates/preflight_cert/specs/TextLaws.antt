@@ -5,7 +5,7 @@ use Rattle.std.specs.List.{All}
 use Rattle.mapping.specs.Limits.{IsSurfaceSide}
 use Rattle.mapping.specs.Nibs.{IsNib}
 use Rattle.mapping.specs.declared.nib.Nib.{Nib}
-use Rattle.draw_ops.specs.RuleSets.{has_fine_plane, in_force}
+use Rattle.draw_ops.specs.RuleSets.{in_force, is_print}
 use Rattle.draw_ops.specs.declared.rules.Rules.{Rules}
 use Rattle.dc_stack.specs.Drawing.{edge_limit}
 use Rattle.dc_stack.specs.Path.{piece_limit}
@@ -50,7 +50,7 @@ pub record IsCertificate (c : CertificateValue) : Type 0 where
 -- the same under rules: under the print profile each entry has a nib
 pub record IsCertificateUnder (rules : Rules) (c : CertificateValue) : Type 0 where
   pub within : IsCertificate c
-  pub version : has_fine_plane rules ≡ true → c.version ≡ Mpc2
+  pub version : is_print rules ≡ true → c.version ≡ Mpc2
 
 -- What is written is read back unchanged, and so are the rules in force. Bytes that are read are the text of what they
 -- describe, and that is a certificate.

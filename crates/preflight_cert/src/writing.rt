@@ -129,7 +129,7 @@ pub struct Head {
 fn put_signature(text: &mut Vec<u8>, rules: Rules, version: Version) -> Result<(), OutOfMemory>
     ensures { OnOk result (text.new.items ≡ text.old.items ++ signature_numbers rules version) }
 {
-    if rules.has_fine_plane() {
+    if rules.is_print() {
         put_number(text, PRINT_SIGNATURE)?;
         put_number(text, rules.allowed.bits())
     } else {
