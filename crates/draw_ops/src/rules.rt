@@ -89,11 +89,7 @@ impl Rules {
     pub fn in_force(self) -> Rules
         ensures { result ≡ in_force self }
     {
-        if self.is_print() {
-            self
-        } else {
-            Rules::CORE
-        }
+        if self.is_print() { self } else { Rules::CORE }
     }
 
     /// Whether a selected object may be deleted.

@@ -91,11 +91,7 @@ fn parts_of_unit(rules: Rules, frame: &Frame) -> u16
     ensures few { result ≤ 4096 }
 {
     part_law();
-    if rules.is_print() {
-        frame.parts()
-    } else {
-        1
-    }
+    if rules.is_print() { frame.parts() } else { 1 }
 }
 
 /// The frame, with its sides counted in parts under these rules.
