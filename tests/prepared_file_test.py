@@ -214,7 +214,8 @@ class PreparedFile(unittest.TestCase):
         (self.folder / "second").unlink(missing_ok=True)
         os.link(file, self.folder / "second")
         fine = ["--profile", "print"]
-        for options in ([], ["--profile", "core"], fine, [*fine, "--allow", "held-deletion"], [*fine, "--allow", "emf-plus"]):
+        allowing = ([*fine, *(word for name in names for word in ("--allow", name))] for names in (["held-deletion"], ["emf-plus"], ["held-deletion", "emf-plus"]))
+        for options in ([], ["--profile", "core"], fine, *allowing):
             for name in ["file", "./file", str(file), "link", "second"]:
                 for words in [("file", name), (name, "file")]:
                     told = answer(program, ["prepare", words[0], "4", "4", words[1], *options], cwd=self.folder)

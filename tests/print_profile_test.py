@@ -210,6 +210,16 @@ class HeldDeletion(unittest.TestCase):
             self.assertEqual((report["allowed"], report["writes"], report["needs"]["slots"]), ({"held-deletion": 1}, 4, slots))
 
     @for_each_program
+    def test_what_is_deleted_still_draws(self, program):
+        whole = {(x, y): RED for x in range(4) for y in range(4)}
+        for form in FORMS:
+            brush = form.file(form.records("null_pen 0; solid_brush 1 255; select 0; select 1; delete 1; delete 0; rectangle 0 0 4 4"), 4, 3)
+            pen = form.file(form.records("solid_pen 0 255; select 0; delete 0; move 0 1; line 4 1"), 4, 2)
+            for words in (DELETION, BOTH):
+                self.assertEqual(played(program, brush, (4, 4), words), shown(whole))
+                self.assertEqual(played(program, pen, (4, 4), words), shown({(x, 1): RED for x in range(4)}))
+
+    @for_each_program
     def test_a_certificate_that_does_not_allow_it_is_rejected(self, program):
         certificate = prepared(program, self.FILE, (4, 4), BOTH)
         self.assertEqual(certificate[:8], b"MPC3" + u32(3))
@@ -303,11 +313,14 @@ class Options(unittest.TestCase):
                 (["--allow", "emf-plus"], b"error: --allow needs --profile print\n"),
                 (["--allow", "text"], b"error: --allow needs held-deletion or emf-plus\n"),
                 (["--profile", "paper", "--allow", "text"], b"error: --profile needs core or print\n"),
+                ([*BOTH, "--allow", "text"], b"error: --allow needs held-deletion or emf-plus\n"),
+                ([*PRINT, *["--allow", "held-deletion"] * 40, "--allow", "text"], b"error: --allow needs held-deletion or emf-plus\n"),
             ):
                 done = answer(program, [*command, *words])
                 self.assertTrue(done.err.startswith(why + b"\n" + usage), done.err)
-        done = answer(program, ["info", "stdin", "stdin"])
-        self.assertTrue(done.err.startswith(b"error: standard input was given more than once\n\nUsage: metaplay info [OPTIONS] <FILE>...\n"), done.err)
+        for words in ([], PRINT, BOTH):
+            done = answer(program, ["info", "stdin", "stdin", *words])
+            self.assertTrue(done.err.startswith(b"error: standard input was given more than once\n\nUsage: metaplay info [OPTIONS] <FILE>...\n"), done.err)
 
     @for_each_program
     def test_commands_with_a_certificate_take_none(self, program):
