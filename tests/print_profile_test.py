@@ -213,8 +213,8 @@ class HeldDeletion(unittest.TestCase):
     def test_what_is_deleted_still_draws(self, program):
         whole = {(x, y): RED for x in range(4) for y in range(4)}
         for form in FORMS:
-            brush = form.file(form.records("null_pen 0; solid_brush 1 255; select 0; select 1; delete 1; delete 0; rectangle 0 0 4 4"), 4, 3)
-            pen = form.file(form.records("solid_pen 0 255; select 0; delete 0; move 0 1; line 4 1"), 4, 2)
+            brush = form.file(form.records("null_pen 0; solid_brush 1 0xFF0000; select 0; select 1; delete 1; delete 0; rectangle 0 0 4 4"), 4, 3)
+            pen = form.file(form.records("solid_pen 0 0xFF0000; select 0; delete 0; move 0 1; line 4 1"), 4, 2)
             for words in (DELETION, BOTH):
                 self.assertEqual(played(program, brush, (4, 4), words), shown(whole))
                 self.assertEqual(played(program, pen, (4, 4), words), shown({(x, 1): RED for x in range(4)}))
