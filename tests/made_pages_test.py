@@ -1,4 +1,5 @@
-"""The pages that docs/make_pages.py makes are fresh, the README counts definitions as docs/believed.py does, and a public contract cites no definition without a comment."""
+"""The pages that docs/make_pages.py makes are fresh, the README counts definitions as docs/believed.py does, and a public contract cites no
+definition without a comment."""
 
 import re
 import subprocess
