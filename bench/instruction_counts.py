@@ -7,9 +7,17 @@ import re
 import shutil
 import subprocess
 import tempfile
+from concurrent.futures import ThreadPoolExecutor
 
-from instruction_files import CLOSE, FILES
+import instruction_files
+from print_files import PARTS, named_print, under_print
 from writers import PROGRAM, ROOT
+
+# Each file under the core profile and under the print profile, and those whose work is in parts of a unit.
+FILES = instruction_files.FILES | {named_print(name): under_print(made) for name, made in instruction_files.FILES.items()} | PARTS
+
+# How many times the instructions on record a file may take at most, where that is less than for others.
+CLOSE = instruction_files.CLOSE | {named_print(name): most for name, most in instruction_files.CLOSE.items()} | dict.fromkeys(PARTS, 1.15)
 
 RECORD = ROOT / "bench" / "instructions.json"
 
@@ -21,22 +29,29 @@ class Uncounted(Exception):
     """Why instructions can't be counted."""
 
 
-def count(program, name, options=()):
-    """The instructions of one run on a file, with these options: the same from run to run, since the program gets no words of the caller's
-    environment and the file is named alike."""
+def count(program, name):
+    """The instructions of one run on a file: the same from run to run, since the program gets no words of the caller's environment and the file is
+    named alike."""
     valgrind = shutil.which("valgrind")
     if valgrind is None:
         raise Uncounted("valgrind is not there: it counts instructions (apt-get install valgrind)")
     counted = FILES[name]()
     with tempfile.TemporaryDirectory() as folder:
         pathlib.Path(folder, "file").write_bytes(counted.given)
-        words = [valgrind, "--tool=callgrind", "--callgrind-out-file=/dev/null", os.path.abspath(program)]
-        words += [*counted.words(), *options]
+        if counted.preparing():
+            subprocess.run([os.path.abspath(program), *counted.preparing()], cwd=folder, env={}, check=True)
+        words = [valgrind, "--tool=callgrind", "--callgrind-out-file=/dev/null", os.path.abspath(program), *counted.words()]
         ended = subprocess.run(words, cwd=folder, env={}, stdout=subprocess.DEVNULL, stderr=subprocess.PIPE, text=True)
     told = re.search(r"Collected : (\d+)", ended.stderr)
     if ended.returncode != 0 or told is None:
         raise Uncounted(f"{name}: status {ended.returncode}\n{ended.stderr[-1000:]}")
     return int(told[1])
+
+
+def count_all(program):
+    """The instructions of each file, two at a time."""
+    with ThreadPoolExecutor(2) as pool:
+        return dict(zip(FILES, pool.map(lambda name: count(program, name), FILES), strict=True))
 
 
 def on_record(path=RECORD):
@@ -46,7 +61,7 @@ def on_record(path=RECORD):
 
 def write_record(program, path=RECORD):
     """Counts all files and writes what they take."""
-    counts = {name: count(program, name) for name in FILES}
+    counts = count_all(program)
     pathlib.Path(path).write_text(json.dumps(counts, indent=4) + "\n")
     return counts
 

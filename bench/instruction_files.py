@@ -8,20 +8,31 @@ from writers import BETWEEN, EMF, MASKED, PATCOPY, PATINVERT, SRCCOPY, WMF, Bitm
 
 
 class Counted(NamedTuple):
-    """A file, and the surface that it is shown on, or that it is listed and not shown."""
+    """A file, the surface that it is shown on, or another command that it is given to, and the options for its rules."""
 
     given: bytes
     width: int
     height: int
-    is_listed: bool = False
+    command: str = "show"
+    options: tuple[str, ...] = ()
+
+    def sides(self):
+        """The words for its surface."""
+        return [str(self.width), str(self.height)]
+
+    def preparing(self):
+        """The words that prepare what the command needs beside the file named `file`, if it needs anything."""
+        return ["prepare", "file", *self.sides(), "certificate", *self.options] if self.command in ("check", "play") else None
 
     def words(self):
         """The words of the command that is counted, on a file named `file`."""
-        return ["list", "file"] if self.is_listed else ["show", "file", str(self.width), str(self.height)]
+        certified = {"check": ["file", "certificate"], "play": ["file", "certificate", *self.sides()]}
+        plain = {"show": ["file", *self.sides()], "list": ["file"], "info": ["file"]}
+        return [self.command, *(certified.get(self.command) or [*plain[self.command], *self.options])]
 
 
-# EMR_COMMENT, [MS-EMF] 2.3.3.
-COMMENT = 70
+# EMR_SETTEXTALIGN, [MS-EMF] 2.3.11.25, and EMR_COMMENT, [MS-EMF] 2.3.3.
+SETTEXTALIGN, COMMENT = 22, 70
 
 
 def noise(side, depth):
@@ -39,6 +50,11 @@ def triangles():
         x, y = chance.randrange(width - 2), chance.randrange(height - 2)
         records.append(WMF.step("polygon", x, y, x + 2, y, x, y + 2))
     return Counted(WMF.file(records, (width, height), 0), width, height)
+
+
+def checked_triangles():
+    """The same, checked: each drawing lies in the box of its entry."""
+    return triangles()._replace(command="check")
 
 
 def zigzag():
@@ -393,7 +409,31 @@ def records_in_a_long_path():
 
 def listed_records_in_a_long_path():
     """The same, listed."""
-    return records_in_a_long_path()._replace(is_listed=True)
+    return records_in_a_long_path()._replace(command="list")
+
+
+def checked_records_in_a_long_path():
+    """The same, checked."""
+    return records_in_a_long_path()._replace(command="check")
+
+
+def lists_from_the_position():
+    """Lists of points that go on from the position, on a map that scales."""
+    chance = random.Random(29)
+    records = EMF.records("map_mode 8; window_extent 3000 3000; viewport_extent 2000 2000")
+    records += [EMF.step("polyline_to", *(chance.randrange(-90, 90) for _ in range(2 * 50))) for _ in range(1_000)]
+    return Counted(EMF.file(records, 64, 16), 64, 64)
+
+
+def listed_lists_from_the_position():
+    """The same, listed."""
+    return lists_from_the_position()._replace(command="list")
+
+
+def records_after_emf_plus():
+    """Short records after comments with EMF+, which are counted."""
+    records = [EMF.record(COMMENT, u32(4) + b"EMF+")] * 2 + (EMF.records("pixel 1 1; move 2 2") + [EMF.record(SETTEXTALIGN, u32(0))]) * 10_000
+    return Counted(EMF.file(records, 64, 16), 64, 64)
 
 
 def offsets_in_a_full_state():
@@ -405,7 +445,12 @@ def offsets_in_a_full_state():
 
 def listed_offsets_in_a_full_state():
     """The same, listed."""
-    return offsets_in_a_full_state()._replace(is_listed=True)
+    return offsets_in_a_full_state()._replace(command="list")
+
+
+def told_offsets_in_a_full_state():
+    """The same, given to `info`."""
+    return offsets_in_a_full_state()._replace(command="info")
 
 
 def longest_zigzag():
@@ -520,12 +565,12 @@ def records_beside_a_path():
 
 def listed_records_beside_a_path():
     """The same, listed."""
-    return records_beside_a_path()._replace(is_listed=True)
+    return records_beside_a_path()._replace(command="list")
 
 
 def listed_lists_in_a_path():
     """A path of as many polygons, lists of lines and rectangles as it has room for, listed: a list is looked at without those before it."""
-    return lists_in_a_path()._replace(is_listed=True)
+    return lists_in_a_path()._replace(command="list")
 
 
 def narrow_polygons():
@@ -565,6 +610,7 @@ def upright_strokes_in_a_box():
 
 FILES = {
     "10,000 small triangles, 64 by 8,192": triangles,
+    "10,000 small triangles, checked": checked_triangles,
     "a zigzag of 20,000 points, 4,096 by 16": zigzag,
     "a path of 65,535 pieces, and one painted": pieces,
     "a large bitmap, and a mixed one, 1,024 by 1,024": bitmaps,
@@ -597,8 +643,13 @@ FILES = {
     "100 wide strokes in bands, 8,192 by 2,048": wide_strokes_in_bands,
     "24,000 records while a path is open": records_in_a_long_path,
     "24,000 records while a path is open, listed": listed_records_in_a_long_path,
+    "24,000 records while a path is open, checked": checked_records_in_a_long_path,
+    "1,000 lists of 50 points from the position": lists_from_the_position,
+    "1,000 lists of 50 points from the position, listed": listed_lists_from_the_position,
+    "30,000 records after EMF+": records_after_emf_plus,
     "20,000 offsets in a full state": offsets_in_a_full_state,
     "20,000 offsets in a full state, listed": listed_offsets_in_a_full_state,
+    "20,000 offsets in a full state, info": told_offsets_in_a_full_state,
     "a zigzag of 1,048,576 points, 8,192 by 1": longest_zigzag,
     "10,000 small drawings in bands, 8,192 by 2,048": small_drawings_in_bands,
     "a polygon of 100,000 short edges, 64 by 8,192": edges_of_one_row,

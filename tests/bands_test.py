@@ -1,12 +1,14 @@
 """Bands of any number of rows show what the whole surface shows: each sample, and files made at random from a fixed seed, beside `over`, which
 plays on the whole of a white image."""
 
+import itertools
 import pathlib
 import tempfile
 import unittest
 
 from built import PROGRAMS, SAMPLES, Answer, answer, for_each_program
 from metafile.scripts import EMF, FORMS, HANDLES, WMF
+from reading.rules import CORE, PRINT
 from reference_test import Maker
 
 SEED = 25
@@ -45,16 +47,16 @@ class Bands(unittest.TestCase):
         path.write_bytes(data)
         return path
 
-    def check(self, program, given, sides, bands):
+    def check(self, program, given, sides, bands, rules=CORE):
         """The file is played by bands as on the whole surface: whether it has a certificate."""
         file, certificate = self.path("file", given), self.path("certificate")
         words = [str(side) for side in sides]
-        if answer(program, ["prepare", file, *words, certificate]).status != 0:
+        if answer(program, ["prepare", file, *words, certificate, *rules.words()]).status != 0:
             return False
         whole = answer(program, ["over", file, certificate, self.path("white", white(*sides))])
         self.assertEqual((whole.status, whole.err), (0, b""))
         self.assertEqual(answer(program, ["play", file, certificate, *words]), whole)
-        self.assertEqual(answer(program, ["show", file, *words]), whole)
+        self.assertEqual(answer(program, ["show", file, *words, *rules.words()]), whole)
         for rows in bands:
             self.assertEqual(answer(program, ["play", file, certificate, *words, "--bands", str(rows)]), whole, rows)
         return True
@@ -64,9 +66,9 @@ class Bands(unittest.TestCase):
         for path in sorted(SAMPLES.iterdir()):
             if path.suffix not in (".wmf", ".emf") or answer(program, ["show", path, "9", "9"]).status != 0:
                 continue
-            for sides in SIDES:
-                with self.subTest(sample=path.name, sides=sides):
-                    self.assertTrue(self.check(program, path.read_bytes(), sides, [*BANDS, 8192]))
+            for sides, rules in itertools.product(SIDES, (CORE, PRINT)):
+                with self.subTest(sample=path.name, sides=sides, rules=rules):
+                    self.assertTrue(self.check(program, path.read_bytes(), sides, [*BANDS, 8192], rules))
 
     @for_each_program
     def test_strokes_beside_the_most_pixels_that_are_marked(self, program):
@@ -85,9 +87,10 @@ class Bands(unittest.TestCase):
         for form in FORMS:
             for nth in range(FILES[program]):
                 given, sides = made(form, nth)
-                with self.subTest(form=form.name, nth=nth):
-                    accepted += self.check(program, given, sides, [1, BANDS[1 + nth % 3]])
-        self.assertGreater(accepted, FILES[program])
+                for rules in (CORE, PRINT):
+                    with self.subTest(form=form.name, nth=nth, rules=rules):
+                        accepted += self.check(program, given, sides, [1, BANDS[1 + nth % 3]], rules)
+        self.assertGreater(accepted, 2 * FILES[program])
 
     @for_each_program
     def test_drawings_that_touch_and_miss_an_edge(self, program):

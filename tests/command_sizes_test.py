@@ -1,9 +1,11 @@
-"""Commands at each width and at each height: the certificate, its report, and the image that three commands write."""
+"""Commands at each width and at each height, under both profiles: the certificate, its report, and the image that three commands write."""
 
+import itertools
 import unittest
 
 from built import DOT
 from metafile.fields import u32
+from reading.rules import CORE, PRINT
 from request_program import CHECK_COMMAND, OVER, PLAY_COMMAND, PREPARE_COMMAND, PROGRAMS, SHOW, Command, CommandsTest, Ended, Output
 
 LARGEST_SIDE = 8192
@@ -23,25 +25,28 @@ def image_of(width, height):
     return b"P6\n%d %d\n255\n" % (width, height) + b"\xff" * (before + 1) + b"\0\0" + b"\xff" * (3 * width * height - before - 3)
 
 
-def certificate_of(width, height):
-    """The dot's certificate at a bound: one write, in record 0, at (2,1)."""
-    return b"MPC1" + u32(width, height, 1, 0, 0, 0, 0, 0, 1, 0, 2, 1, 2, 1)
+def certificate_of(width, height, rules):
+    """The dot's certificate at a bound: one write, in record 0, at (2,1). Under print a unit has 4,096 parts, and each drawing a nib."""
+    if rules == CORE:
+        return b"MPC1" + u32(width, height, 1, 0, 0, 0, 0, 0, 1, 0, 2, 1, 2, 1)
+    return b"MPC3" + u32(0, width, height, 1, 0, 0, 0, 0, 0, 1, 0, 8192, 4096, 8192, 4096) + b"\1\0\1\0"
 
 
-def report_of(width, height):
+def report_of(width, height, rules):
     """The report of that certificate."""
+    allowed, profile = (b"", b"") if rules == CORE else (b'"allowed":{},', b'"profile":"print",')
     return (
-        b'{"accepted":true,"drawings":1,"format":"placeable","frame":[4,4],"max":[%d,%d],'
-        b'"needs":{"depth":0,"edges":0,"pieces":0,"slots":0},"notes":{},"records":2,"writes":1}\n' % (width, height)
+        b'{"accepted":true,%s"drawings":1,"format":"placeable","frame":[4,4],"max":[%d,%d],'
+        b'"needs":{"depth":0,"edges":0,"pieces":0,"slots":0},"notes":{},%s"records":2,"writes":1}\n' % (allowed, width, height, profile)
     )
 
 
 def painted(sizes):
     """The commands that write an image, at these sizes, and how they end: the file is shown, played in bands of 1,000 rows and in bands that
     the command chooses, and played over white."""
-    for sides in sizes:
-        certificate, done = certificate_of(*sides), Ended(0, image_of(*sides))
-        yield Command(SHOW, DOT, sides=sides), done
+    for sides, rules in itertools.product(sizes, (CORE, PRINT)):
+        certificate, done = certificate_of(*sides, rules), Ended(0, image_of(*sides))
+        yield Command(SHOW, DOT, sides=sides, rules=rules), done
         yield Command(PLAY_COMMAND, DOT, certificate, sides, rows=1000), done
         yield Command(PLAY_COMMAND, DOT, certificate, sides), done
         yield Command(OVER, DOT, certificate, image=white(*sides)), done
@@ -49,10 +54,10 @@ def painted(sizes):
 
 def certified(bounds):
     """The commands that write a certificate of these bounds, and a report of it, and how they end."""
-    for bound in bounds:
-        certificate = certificate_of(*bound)
-        yield Command(PREPARE_COMMAND, DOT, sides=bound), Ended(0, certificate)
-        yield Command(CHECK_COMMAND, DOT, certificate), Ended(0, report_of(*bound))
+    for bound, rules in itertools.product(bounds, (CORE, PRINT)):
+        certificate = certificate_of(*bound, rules)
+        yield Command(PREPARE_COMMAND, DOT, sides=bound, rules=rules), Ended(0, certificate)
+        yield Command(CHECK_COMMAND, DOT, certificate), Ended(0, report_of(*bound, rules))
 
 
 class EachSize(CommandsTest):
@@ -72,8 +77,10 @@ class EachSize(CommandsTest):
 
     def test_an_image_is_played_in_bands_of_each_height(self):
         sides = (1, LARGEST_SIDE)
-        certificate, done = certificate_of(*sides), Ended(0, image_of(*sides))
-        self.check([(Command(PLAY_COMMAND, DOT, certificate, sides, rows), done) for rows in range(1, LARGEST_SIDE + 2)], PROGRAMS[:1])
+        done = Ended(0, image_of(*sides))
+        for rules in (CORE, PRINT):
+            certificate = certificate_of(*sides, rules)
+            self.check([(Command(PLAY_COMMAND, DOT, certificate, sides, rows), done) for rows in range(1, LARGEST_SIDE + 2)], PROGRAMS[:1])
 
 
 # Images of one row or one column: their sides, and the pixels before the red one. Column 2 of 4 begins at half of the width, and row 1 of 4 at a

@@ -13,10 +13,11 @@ from built import PROGRAMS, SAMPLES, answer, for_each_program
 from hostile.each_byte import answers
 from hostile.measured import measured
 from memory_test import ROOM, bare
-from metafile.fields import i16, i32, u32
-from metafile.files import EMF_END, WMF_END, emf_file, emf_record, placeable_file, wmf_record
+from metafile.fields import RED, i16, i32, u32
+from metafile.files import EMF_END, WMF_END, emf_file, emf_record, placeable_file, wmf_pixel, wmf_record
 from metafile.scripts import EMF, FORMS
 from reading.fields import IDENTITY
+from reading.rules import CORE, PRINT
 from reference.certificates import Certificate
 from reference.pixels import is_on_line
 from request_program import PLAY, asked
@@ -51,11 +52,11 @@ class Limited(unittest.TestCase):
             file.write(given)
         return self.path(name)
 
-    def shown(self, program, given, side, seconds=SECONDS):
-        """The name of the image of a file on a square surface, which took no more than its time, and kept no more than its memory."""
+    def shown(self, program, given, side, seconds=SECONDS, rules=CORE):
+        """The name of the image of a file on a square surface under rules, which took no more than its time, and kept no more than its memory."""
         file, image = self.file("file", given), self.path("image")
         room = bare(program) + len(given) + 3 * side * side + ROOM
-        run = measured(program, ["show", file, side, side], image)
+        run = measured(program, ["show", file, side, side, *rules.words()], image)
         self.assertEqual((run.status, run.err), (0, b""))
         self.assertLess(run.seconds, seconds if program == PROGRAMS[0] else SLOWER * seconds)
         self.assertLess(run.kept, room)
@@ -120,7 +121,8 @@ class States(Limited):
             (save,), (newest,), (oldest,) = map(form.records, ["save", "restore -1", "restore 1"])
             for block, count in [(save + newest, 300_000), (256 * save + 256 * newest, 1171), (256 * save + oldest, 1171)]:
                 given = form.file([block * count], 16, 16)
-                self.assertTrue(self.bytes_of(self.shown(program, given, 64)) == white, form.name)
+                for rules in (CORE, PRINT):
+                    self.assertTrue(self.bytes_of(self.shown(program, given, 64, rules=rules)) == white, (form.name, rules))
 
 
 # A curve of 1,024 points within the surface, which crosses itself.
@@ -141,12 +143,17 @@ class Points(Limited):
 
     @for_each_program
     def test_over_themselves(self, program):
-        once, outline = (self.bytes_of(self.shown(program, given, 64)) for given in (self.polygon(1), self.polygon(2, mode=1)))
+        for rules in (CORE, PRINT):
+            self.check(program, rules)
+
+    def check(self, program, rules):
+        """The polygon over itself looks as once, or as its outline."""
+        once, outline = (self.bytes_of(self.shown(program, given, 64, rules=rules)) for given in (self.polygon(1), self.polygon(2, mode=1)))
         self.assertGreater(once.count(b"\x80\x40\xff"), 500)
         self.assertEqual(outline.count(b"\x80\x40\xff"), 0)
         for rounds, mode, times, wanted in [(64, 2, 1, once), (64, 1, 1, outline), (1, 2, 64, once), (64, 2, 64, once)]:
-            with self.subTest(rounds=rounds, mode=mode, times=times):
-                self.assertTrue(self.bytes_of(self.shown(program, self.polygon(rounds, times, mode), 64)) == wanted)
+            with self.subTest(rounds=rounds, mode=mode, times=times, rules=rules):
+                self.assertTrue(self.bytes_of(self.shown(program, self.polygon(rounds, times, mode), 64, rules=rules)) == wanted)
 
 
 class Nothing(Limited):
@@ -160,7 +167,25 @@ class Nothing(Limited):
             emf_file([emf_record(70) * (MOST_RECORDS - 2), EMF_END]),
             emf_file([emf_record(35, IDENTITY) * (MOST_RECORDS - 2), EMF_END]),
         ]:
-            self.assertTrue(self.bytes_of(self.shown(program, given, 4)) == white, given[:4])
+            for rules in (CORE, PRINT):
+                self.assertTrue(self.bytes_of(self.shown(program, given, 4, rules=rules)) == white, (given[:4], rules))
+
+
+class Drawings(Limited):
+    """As many drawings as a file may have: its certificate has an entry for each."""
+
+    @for_each_program
+    def test_drawings_of_a_pixel(self, program):
+        file = self.file("file", placeable_file([wmf_pixel(2, 1, RED) * (MOST_RECORDS - 1), WMF_END]))
+        certificate, output = self.path("certificate"), self.path("output")
+        for rules, size in ((CORE, 40 + 20 * (MOST_RECORDS - 1)), (PRINT, 44 + 24 * (MOST_RECORDS - 1))):
+            for words in (["prepare", file, 4, 4, certificate, *rules.words()], ["check", file, certificate], ["play", file, certificate, 4, 4]):
+                with self.subTest(words=words):
+                    run = measured(program, words, output)
+                    self.assertEqual((run.status, run.err), (0, b""))
+                    self.assertLess(run.seconds, SECONDS if program == PROGRAMS[0] else SLOWER * SECONDS)
+            self.assertEqual(os.path.getsize(certificate), size)
+            self.assertEqual(self.bytes_of(output), b"P6\n4 4\n255\n" + b"\xff" * 18 + b"\xff\0\0" + b"\xff" * 27)
 
 
 # A certificate of a file without a drawing, that tells the most saved states, slots, points and pieces that one may tell.

@@ -13,6 +13,7 @@ from metafile.scripts import FORMS
 from metafile.shapes import BOUNDS
 from reading.commands import Asked
 from reading.listing import listing
+from reading.rules import CORE, PRINT, Rules
 from standards.emf import EMF
 from standards.wmf import WMF
 
@@ -76,10 +77,13 @@ TOLD = re.compile(r"metaplay: (\w+)(?: \w+)? at record (\d+)\n")
 
 SEED = 1
 
+# The print profile with all that it may allow.
+ALLOWING = Rules(is_print=True, held_deletion=True, emf_plus=True)
 
-def listed(program, given):
-    """What a program answers to `list` of some bytes."""
-    return answer(program, ["list", "stdin"], given)
+
+def listed(program, given, rules=CORE):
+    """What a program answers to `list` of some bytes under rules."""
+    return answer(program, ["list", "stdin", *rules.words()], given)
 
 
 def wanted(given, stops=()):
@@ -115,20 +119,20 @@ def altered(file, chance):
     return bytes(changed)
 
 
-def refused_at(program, given, side):
+def refused_at(program, given, side, rules=CORE):
     """The record in which the run on a square surface is refused, and the fault, as the program tells them where it prepares for it."""
-    told = TOLD.fullmatch(answer(program, ["prepare", "stdin", str(side), str(side), "/dev/null"], given).err.decode())
+    told = TOLD.fullmatch(answer(program, ["prepare", "stdin", str(side), str(side), "/dev/null", *rules.words()], given).err.decode())
     return (int(told[2]), told[1]) if told else None
 
 
-def stops_of(program, given):
+def stops_of(program, given, rules=CORE):
     """The records in which the runs on the largest surface and on the smallest are refused, and the faults."""
-    return [it for it in (refused_at(program, given, side) for side in (8192, 1)) if it]
+    return [it for it in (refused_at(program, given, side, rules) for side in (8192, 1)) if it]
 
 
-def first_refused(program, given):
+def first_refused(program, given, rules=CORE):
     """The first record whose line tells that it is refused and the fault, or nothing."""
-    lines = [line.split("\t") for line in listed(program, given).out.decode().splitlines()]
+    lines = [line.split("\t") for line in listed(program, given, rules).out.decode().splitlines()]
     return next(((int(line[0]), line[6]) for line in lines if line[5] == "refused" and line[0] != "-"), None)
 
 
@@ -171,14 +175,15 @@ class Listings(unittest.TestCase):
             file = path.read_bytes()
             for trial in range(25 if len(file) < 3000 else 2):
                 changed = altered(file, chance)
-                told = listed(program, changed)
-                self.assertEqual(told, Asked(changed).list(), (path.name, trial))
-                found = stops_of(program, changed)
-                if found:
-                    stops += 1
-                    # In one record the line tells the largest surface's fault.
-                    self.assertEqual(first_refused(program, changed), min(found, key=lambda it: it[0]), (path.name, trial))
-        self.assertGreater(stops, 50)
+                for rules in (CORE, PRINT, ALLOWING):
+                    told = listed(program, changed, rules)
+                    self.assertEqual(told, Asked(changed, rules).list(), (path.name, trial, rules))
+                    found = stops_of(program, changed, rules)
+                    if found:
+                        stops += 1
+                        # In one record the line tells the largest surface's fault.
+                        self.assertEqual(first_refused(program, changed, rules), min(found, key=lambda it: it[0]), (path.name, trial, rules))
+        self.assertGreater(stops, 150)
 
     @for_each_program
     def test_each_record_that_is_refused_on_some_surface(self, program):

@@ -148,11 +148,15 @@ class PreparedFile(unittest.TestCase):
 
     @for_each_program
     def test_names_that_are_taken_are_left_as_they_are(self, program):
-        for taken in [".metaplay-0", ".metaplay-1"]:
-            (self.folder / taken).write_bytes(OLD)
-        self.assertEqual(self.prepare(program, self.out), DONE)
-        self.assertEqual(self.names(), [".metaplay-0", ".metaplay-1", "out"])
-        self.assertEqual((self.folder / ".metaplay-0").read_bytes(), OLD)
+        for count in (0, 1, 2, 9, 10, 11, 100):
+            taken = [f".metaplay-{nth}" for nth in range(count)]
+            for path in list(self.folder.iterdir()):
+                path.unlink()
+            for name in taken:
+                (self.folder / name).write_bytes(OLD)
+            self.assertEqual(self.prepare(program, self.out), DONE, count)
+            self.assertEqual(self.names(), sorted([*taken, "out"]))
+            self.assertEqual({(self.folder / name).read_bytes() for name in taken}, {OLD} if taken else set())
 
     @for_each_program
     def test_a_link_leads_to_the_file_that_is_written(self, program):
@@ -209,10 +213,13 @@ class PreparedFile(unittest.TestCase):
         (self.folder / "link").symlink_to(file)
         (self.folder / "second").unlink(missing_ok=True)
         os.link(file, self.folder / "second")
-        for name in ["file", "./file", str(file), "link", "second"]:
-            for words in [("file", name), (name, "file")]:
-                told = answer(program, ["prepare", words[0], "4", "4", words[1]], cwd=self.folder)
-                self.assertEqual((told, file.read_bytes()), (SAME_FILE, DOT), words)
+        fine = ["--profile", "print"]
+        allowing = ([*fine, *(word for name in names for word in ("--allow", name))] for names in (["held-deletion"], ["emf-plus"], ["held-deletion", "emf-plus"]))
+        for options in ([], ["--profile", "core"], fine, *allowing):
+            for name in ["file", "./file", str(file), "link", "second"]:
+                for words in [("file", name), (name, "file")]:
+                    told = answer(program, ["prepare", words[0], "4", "4", words[1], *options], cwd=self.folder)
+                    self.assertEqual((told, file.read_bytes()), (SAME_FILE, DOT), (words, options))
         self.assertEqual(self.names(), ["file", "link", "second"])
 
     @for_each_program

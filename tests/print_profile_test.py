@@ -10,7 +10,7 @@ import unittest
 from answers import refused, shown
 from built import Answer, answer, for_each_program
 from command_inputs import TRIANGLE, TRIANGLE_CERT, changed
-from metafile.fields import BLACK, RED, i32, u32
+from metafile.fields import BLACK, RED, i32, u16, u32
 from metafile.files import EMF_END, emf_file, emf_record
 from metafile.scripts import EMF, FORMS, WMF
 
@@ -210,6 +210,16 @@ class HeldDeletion(unittest.TestCase):
             self.assertEqual((report["allowed"], report["writes"], report["needs"]["slots"]), ({"held-deletion": 1}, 4, slots))
 
     @for_each_program
+    def test_what_is_deleted_still_draws(self, program):
+        whole = {(x, y): RED for x in range(4) for y in range(4)}
+        for form in FORMS:
+            brush = form.file(form.records("null_pen 0; solid_brush 1 0xFF0000; select 0; select 1; delete 1; delete 0; rectangle 0 0 4 4"), 4, 3)
+            pen = form.file(form.records("solid_pen 0 0xFF0000; select 0; delete 0; move 0 1; line 4 1"), 4, 2)
+            for words in (DELETION, BOTH):
+                self.assertEqual(played(program, brush, (4, 4), words), shown(whole))
+                self.assertEqual(played(program, pen, (4, 4), words), shown({(x, 1): RED for x in range(4)}))
+
+    @for_each_program
     def test_a_certificate_that_does_not_allow_it_is_rejected(self, program):
         certificate = prepared(program, self.FILE, (4, 4), BOTH)
         self.assertEqual(certificate[:8], b"MPC3" + u32(3))
@@ -251,6 +261,16 @@ class EmfPlusAlone(unittest.TestCase):
         self.assertEqual(played(program, self.ALONE, (4, 4), []), shown({}))
 
     @for_each_program
+    def test_both_may_be_allowed_and_used(self, program):
+        given = emf_file([PLUS_COMMENT, *EMF.records("pen 0; select 0; delete 0"), EMF_END], handles=u16(2))
+        self.assertEqual(played(program, given, (4, 4), DELETION), refused("EmfPlusAlone", 5))
+        self.assertEqual(played(program, given, (4, 4), EMF_PLUS), refused("HeldObject", 4))
+        self.assertEqual(played(program, given, (4, 4), BOTH), shown({}))
+        used = {"emf-plus": 1, "held-deletion": 1}
+        self.assertEqual(checked(program, given, prepared(program, given, (4, 4), BOTH))["allowed"], used)
+        self.assertEqual(json.loads(answer(program, ["info", "stdin", *BOTH], given).out)["allowed"], used)
+
+    @for_each_program
     def test_a_file_that_draws_is_accepted(self, program):
         for records in (EMF.records("pixel 0 0"), EMF.records("polyline")):
             given = emf_file([PLUS_COMMENT, *records, EMF_END])
@@ -280,6 +300,29 @@ class Options(unittest.TestCase):
                 self.assertEqual((done.status, done.out, path.exists()), (2, b"", False), words)
 
     @for_each_program
+    def test_the_usage_is_that_of_the_command(self, program):
+        for command, usage in (
+            (["show", "stdin", "4", "4"], b"Usage: metaplay show [OPTIONS] <FILE> <W> <H>\n"),
+            (["prepare", "stdin", "4", "4", "none.cert"], b"Usage: metaplay prepare [OPTIONS] <FILE> <W> <H> <OUT>\n"),
+            (["list", "stdin"], b"Usage: metaplay list [OPTIONS] <FILE>\n"),
+            (["info", "stdin"], b"Usage: metaplay info [OPTIONS] <FILE>...\n"),
+        ):
+            for words, why in (
+                (["--profile", "paper"], b"error: --profile needs core or print\n"),
+                ([*PRINT, "--allow", "text"], b"error: --allow needs held-deletion or emf-plus\n"),
+                (["--allow", "emf-plus"], b"error: --allow needs --profile print\n"),
+                (["--allow", "text"], b"error: --allow needs held-deletion or emf-plus\n"),
+                (["--profile", "paper", "--allow", "text"], b"error: --profile needs core or print\n"),
+                ([*BOTH, "--allow", "text"], b"error: --allow needs held-deletion or emf-plus\n"),
+                ([*PRINT, *["--allow", "held-deletion"] * 40, "--allow", "text"], b"error: --allow needs held-deletion or emf-plus\n"),
+            ):
+                done = answer(program, [*command, *words])
+                self.assertTrue(done.err.startswith(why + b"\n" + usage), done.err)
+        for words in ([], PRINT, BOTH):
+            done = answer(program, ["info", "stdin", "stdin", *words])
+            self.assertTrue(done.err.startswith(b"error: standard input was given more than once\n\nUsage: metaplay info [OPTIONS] <FILE>...\n"), done.err)
+
+    @for_each_program
     def test_commands_with_a_certificate_take_none(self, program):
         with tempfile.TemporaryDirectory() as room:
             path = pathlib.Path(room, "certificate")
@@ -291,8 +334,20 @@ class Options(unittest.TestCase):
 
     @for_each_program
     def test_a_name_may_be_given_again(self, program):
-        words = [*DELETION, "--allow", "held-deletion"]
-        self.assertEqual(prepared(program, TRIANGLE, (4, 4), words), prepared(program, TRIANGLE, (4, 4), DELETION))
+        certificate = prepared(program, TRIANGLE, (4, 4), DELETION)
+        for count in range(40):
+            self.assertEqual(prepared(program, TRIANGLE, (4, 4), [*DELETION, *["--allow", "held-deletion"] * count]), certificate, count)
+
+    @for_each_program
+    def test_options_may_stand_anywhere(self, program):
+        image = answer(program, ["show", "stdin", "4", "4", *BOTH, "--fit"], TRIANGLE)
+        self.assertEqual(image.status, 0)
+        for words in (
+            ["show", *BOTH, "--fit", "stdin", "4", "4"],
+            ["show", "--allow", "emf-plus", "stdin", "--allow", "held-deletion", "4", "--profile", "print", "4", "--fit"],
+            ["show", "--fit", "stdin", "--profile=print", "4", "--allow=held-deletion", "4", "--allow=emf-plus"],
+        ):
+            self.assertEqual(answer(program, words, TRIANGLE), image, words)
 
     @for_each_program
     def test_info_is_by_the_rules(self, program):

@@ -34,7 +34,7 @@ def main():
         sys.exit(__doc__)
     built, name, *functions = sys.argv[1:]
     os.chdir(built)
-    crate = Here(next(it for it in edit_trials.rt.crates_of(os.getcwd()) if it.name == name))
+    crate = Here(next(it for it in edit_trials.rt.rtlib.crates_below(os.getcwd()) if it.name == name))
     names = [it if it.startswith(f"{name}::") else f"{name}::{it}" for it in functions]
     edit_trials.rt.rtlib.guarded()
     with tempfile.TemporaryDirectory(prefix="prove-only-") as kept:

@@ -14,6 +14,8 @@ import unittest
 import zlib
 
 from built import DOT, DOT_IMAGE, PROGRAMS, ROOT, SAMPLES
+from metafile.fields import u32
+from metafile.files import EMF_END, emf_file, emf_record
 from metafile.scripts import WMF
 
 RECIPES = ROOT / "docs" / "recipes"
@@ -215,7 +217,7 @@ class Recipes(unittest.TestCase):
         for side in ("0", "8193", "10000", "6x", "-1", ""):
             told = self.run_words(RECIPES / "check-file", "64", side, "dot.wmf")
             self.assertEqual(told, (1, b"", b"check-file: W and H are numbers from 1 to 8192\n"))
-        self.assertEqual(self.run_words(RECIPES / "check-file", "64", "64"), (1, b"", b"check-file: usage: check-file W H FILE\n"))
+        self.assertEqual(self.run_words(RECIPES / "check-file", "64", "64"), (1, b"", b"check-file: usage: check-file W H [OPTION...] FILE\n"))
         # Other faults, and a file that isn't there.
         (self.folder / "text.wmf").write_bytes(WMF.file([WMF.record(0x0A32)], 8, 0))
         for name, code, fault, number, record in [("metaplay", 2, "NotMetafile", None, None), ("text.wmf", 15, "Unsupported", 0x0A32, 0)]:
@@ -236,6 +238,23 @@ class Recipes(unittest.TestCase):
         report = json.loads(out)
         self.assertEqual((status, report["accepted"], report["file"]), (1, False, "held file.wmf"))
         self.assertIn("fault", report)
+
+    @needs("jq")
+    def test_a_file_is_checked_under_the_print_profile(self):
+        words = [RECIPES / "check-file", "64", "64", "--profile", "print"]
+        status, out, _ = self.run_words(*words, "dot.wmf")
+        report = json.loads(out)
+        self.assertEqual((status, report["profile"], report["allowed"]), (0, "print", {}))
+        self.assertEqual(self.run_words(*words, "held file.wmf")[0], 1)
+        status, out, _ = self.run_words(*words, "--allow", "held-deletion", "held file.wmf")
+        self.assertEqual((status, json.loads(out)["allowed"]), (0, {"held-deletion": 1}))
+        # An EMF file with a comment that begins with EMF+, and nothing else ([MS-EMF] 2.3.3.1).
+        (self.folder / "plus.emf").write_bytes(emf_file([emf_record(70, u32(8) + b"EMF+" + u32(0)), EMF_END]))
+        status, out, _ = self.run_words(*words, "plus.emf")
+        report = {"file": "plus.emf", "accepted": False, "code": 48, "fault": "EmfPlusAlone", "number": None, "record": 2}
+        self.assertEqual((status, json.loads(out)), (1, report))
+        status, out, _ = self.run_words(RECIPES / "check-file", "64", "64", "--profile", "paper", "no file")
+        self.assertEqual((status, "--profile needs core or print" in json.loads(out)["said"]), (1, True))
 
     @needs("jq")
     def test_without_a_report_a_file_is_not_accepted(self):
@@ -264,9 +283,9 @@ class Recipes(unittest.TestCase):
     def test_faults_have_their_codes(self):
         told = (RECIPES / "check-file").read_text("utf-8").split("faults='")[1].split("'")[0].split()
         page = re.findall(r"^\| (\d+) \| `(\w+)` \|", (ROOT / "docs/FAULTS.md").read_text("utf-8"), re.MULTILINE)
-        of_files = [(code, name) for code, name in page if int(code) <= 5 or 10 <= int(code) <= 37 or code == "46"]
+        of_files = [(code, name) for code, name in page if int(code) <= 5 or 10 <= int(code) <= 37 or code in ("46", "48")]
         self.assertEqual(list(zip(told[::2], told[1::2])), sorted(of_files, key=lambda row: int(row[0])))
-        self.assertEqual(len(of_files), 34)
+        self.assertEqual(len(of_files), 35)
 
     @needs("git", "xargs")
     def test_a_hook_of_git(self):

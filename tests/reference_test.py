@@ -15,6 +15,7 @@ from metafile.files import EMF_END, WMF_END, emf_file, placeable_file
 from metafile.scripts import EMF, FORMS, WMF, Form
 from metafile.shapes import BETWEEN
 from random_bitmaps import BARE, WHOLE, RandomBitmaps
+from reading.rules import CORE, PRINT, Rules
 from reference.pixels import Axis
 from reference.player import Reference
 
@@ -59,10 +60,11 @@ COLOURS = [0x000000, 0xFF0000, 0x00FF00, 0x0000FF, 0x5A3C96, 0x800001, 0xFFFFFF]
 
 
 class Drawn(NamedTuple):
-    """A file, its records as a script, the sides of its surface, its image by the reference, up to a
+    """A file, its rules, its records as a script, the sides of its surface, its image by the reference, up to a
     record that is refused, and the program's answer by that."""
 
     form: Form
+    rules: Rules
     script: str
     given: bytes
     surface: tuple[int, int]
@@ -260,24 +262,26 @@ class Maker:
         axes = [Axis(*map_, *ends) for map_, *ends in zip(maps, sides, self.surface, strict=True)]
         return tuple(axes), given
 
-    def drawn(self):
-        """A file and its image."""
+    def drawn(self, rules):
+        """A file and its image under rules."""
         steps = self.steps()
         script = "; ".join(" ".join(map(str, [name, *words])) for name, words in steps)
         axes, given = self.axes_and_file(script)
+        parts = rules.parts([axis.frame for axis in axes])
+        axes = tuple(axis._replace(parts=parts) for axis in axes)
         image, refusal = Reference(axes, self.form is EMF).play(steps)
         wanted = shown(image, *self.surface)
         if refusal is not None:
             fault, number = refusal
             wanted = refused(fault, self.form.first + number)
-        return Drawn(self.form, script, given, self.surface, image, wanted)
+        return Drawn(self.form, rules, script, given, self.surface, image, wanted)
 
 
 @cache
-def all_drawn():
-    """All files and their images, alike in each run."""
+def all_drawn(rules=CORE):
+    """All files and their images under rules, alike in each run."""
     return [
-        Maker(form, f"{form.name} {SEED * 1000 + nth}").drawn()
+        Maker(form, f"{form.name} {SEED * 1000 + nth}").drawn(rules)
         for form in FORMS
         for nth in range(FILES[form.name])
     ]
@@ -290,7 +294,7 @@ def is_of_bitmaps(refusal):
 
 def shown_by(program, drawn):
     """What a program answers to a file at its surface."""
-    return answer(program, ["show", "stdin", *map(str, drawn.surface)], drawn.given)
+    return answer(program, ["show", "stdin", *map(str, drawn.surface), *drawn.rules.words()], drawn.given)
 
 
 class Files(unittest.TestCase):
@@ -325,16 +329,21 @@ class Files(unittest.TestCase):
         misused = [drawn for drawn in all_drawn() if is_of_bitmaps(drawn.wanted.err)]
         self.assertIn(len(misused), range(20, len(all_drawn()) // 4))
 
+    def test_many_files_have_another_image_under_the_print_profile(self):
+        others = sum(core.image != fine.image for core, fine in zip(all_drawn(), all_drawn(PRINT), strict=True))
+        self.assertGreater(3 * others, len(all_drawn()))
+
     @for_each_program
     def test_each_pixel_is_that_of_the_reference(self, program):
+        all_files = [*all_drawn(), *all_drawn(PRINT)]
         with ThreadPoolExecutor() as pool:
-            answers = pool.map(lambda drawn: shown_by(program, drawn), all_drawn())
+            answers = pool.map(lambda drawn: shown_by(program, drawn), all_files)
             wrong = [
-                f"{drawn.form.name} on {drawn.surface}: {drawn.script}"
-                for drawn, answered in zip(all_drawn(), answers, strict=True)
+                f"{drawn.form.name} on {drawn.surface} {drawn.rules.words()}: {drawn.script}"
+                for drawn, answered in zip(all_files, answers, strict=True)
                 if answered != drawn.wanted
             ]
-        self.assertEqual(wrong[:5], [], f"{len(wrong)} of {len(all_drawn())} files")
+        self.assertEqual(wrong[:5], [], f"{len(wrong)} of {len(all_files)} files")
 
 
 if __name__ == "__main__":

@@ -19,6 +19,10 @@ IsFull split samples = split.written ≡ split.header_length + length samples
 abbrev pub rest_of : Split → List ℕ → List ℕ
 rest_of split samples = drop (split.written - split.header_length) samples
 
+-- how many bytes the buffer has capacity for after those that were written
+abbrev pub capacity_left : Split → List ℕ → ℕ
+capacity_left split samples = length samples - (split.written - split.header_length)
+
 -- this many more bytes were written after a header of the same length, and the rest of the buffer is unchanged
 pub record GoesOn (count : ℕ) (old : Split) (before : List ℕ) (new : Split) (after : List ℕ) : Type 0 where
   pub header : new.header_length ≡ old.header_length

@@ -1,6 +1,6 @@
 //! A text of which the header goes to an array, and the samples to a buffer.
 
-ghost use Rattle.std.specs.Prelude.{◌≡◌, ◌+◌, ◌<◌, ◌≤◌, ◌++◌, length, take};
+ghost use Rattle.std.specs.Prelude.{◌≡◌, ◌+◌, ◌<◌, ◌≤◌, ◌++◌, length, min, take};
 
 use crate::copying::put;
 
@@ -24,7 +24,7 @@ pub(crate) struct Split {
 }
 
 impl Split {
-    ghost use Rattle.buffer_calls.specs.Split.{GoesOn, IsFull, header_of, text_of};
+    ghost use Rattle.buffer_calls.specs.Split.{GoesOn, IsFull, capacity_left, header_of, text_of};
 
     /// Takes as many of the bytes as header and buffer have capacity for, and returns how many.
     pub(crate) fn accept(&mut self, samples: &mut [u8], bytes: &[u8]) -> usize
@@ -57,13 +57,14 @@ impl Split {
         count
     }
 
-    /// Takes bytes of the samples.
+    /// Takes as many of the bytes as the buffer has capacity for.
     fn accept_samples(&mut self, samples: &mut [u8], bytes: &[u8]) -> usize
         requires after { self.old.header_length ≤ self.old.written }
         requires within { self.old.written ≤ self.old.header_length + length samples.old }
         ensures bound { result ≤ length bytes.now }
         ensures text { text_of self.new samples.new ≡ text_of self.old samples.old ++ take result bytes.now }
         ensures next { GoesOn result self.old samples.old self.new samples.new }
+        ensures count { result ≡ min (length bytes.now) (capacity_left self.old samples.old) }
         ensures full { result ≡ 0 → 0 < length bytes.now → IsFull self.new samples.new }
     {
         let at = self.written - self.header_length;

@@ -1,10 +1,10 @@
 -- Command lines that ask for information about files.
-use Rattle.std.specs.Prelude.{◌≡◌, ◌≤◌, ◌⊎◌, ◌++◌, ℕ, List, ◌∷◌, Option, Some, codes, count_by, map}
+use Rattle.std.specs.Prelude.{◌≡◌, ◌≤◌, ◌⊎◌, ◌++◌, ℕ, List, ◌∷◌, true, Option, Some, codes, count_by, map}
 use Rattle.std.specs.Borrow.{Bor}
 use Rattle.std.specs.List.{All, Any}
 use Rattle.std.specs.Str.{bytes_eq}
-use Rattle.clap.specs.Words.{Row, Text, all_of, subcommand_of}
-use Rattle.command_lines.specs.CommandLine.{IsPlainWord, metaplay_app}
+use Rattle.clap.specs.Words.{Row, Text, all_of, subcommand_of, takes}
+use Rattle.command_lines.specs.CommandLine.{IsPlainWord, IsRightCommand, metaplay_app}
 use Rattle.draw_ops.specs.declared.rules.Rules.{Rules}
 use Rattle.command_lines.specs.RightWords.{AreRightWords, rule_options}
 use Rattle.command_lines.specs.RuleWords.{GivesRules}
@@ -57,6 +57,14 @@ pub record AreInfoWords (words : List Text) : Type 0 where
 -- words are right for a command, or for the version
 abbrev pub AreCommandWords : List Text → Type 0
 AreCommandWords words = AreRightWords words ⊎ (AreInfoWords words ⊎ AreVersionWords words)
+
+-- clap accepts the words, in whatever order, and what they give is right: the arguments of a command on one file, or
+-- names and rules for `info`
+pub record AreAccepted (words : List Text) : Type 0 where
+  pub taken : takes metaplay_app words ≡ true
+  pub right :
+      (IsRightCommand (subcommand_of metaplay_app words) × IsOther (codes "info") (subcommand_of metaplay_app words))
+      ⊎ AsksInfoOnce (subcommand_of metaplay_app words)
 
 -- the texts of borrowed names
 abbrev pub names_in : List (Bor (List ℕ)) → List Text

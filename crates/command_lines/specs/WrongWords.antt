@@ -50,6 +50,6 @@ pub record GiveProfileTwice (words : List Text) : Type 0 where
   pub no_end : All IsNoEnd before × All IsNoEnd between
   pub are_profiles : IsOption (codes "profile") first × IsOption (codes "profile") second
 
--- words that give rules to a command by a certificate, or the profile twice
+-- words that give rules to a command that takes a certificate, or that give the profile twice
 abbrev pub AreWrongWords : List Text → Type 0
 AreWrongWords words = GiveRulesBesideCertificate words ⊎ GiveProfileTwice words

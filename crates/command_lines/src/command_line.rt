@@ -7,7 +7,7 @@ ghost use Rattle.clap.specs.Words.{all_of, found_of, kind_of, rows_of, subcomman
 ghost use Rattle.command_lines.specs.Asked.{HasPlainWords, HoldsInfo, IsAskedFor, IsFound, IsValid};
 ghost use Rattle.command_lines.specs.CommandLine.{AreRightArguments, GivesAll, HoldsWords, IsAskedBy, IsRightCommand, command_name, texts_of};
 ghost use Rattle.command_lines.specs.CommandLine.{check_app, list_app, over_app, play_app, prepare_app, show_app};
-ghost use Rattle.command_lines.specs.InfoWords.{AreCommandWords, AsksInfoOnce, GivesNamesOnce, HasOneInput, IsOther, names_in};
+ghost use Rattle.command_lines.specs.InfoWords.{AreAccepted, AreCommandWords, AsksInfoOnce, GivesNamesOnce, HasOneInput, IsOther, names_in};
 ghost use Rattle.command_lines.specs.Dimensions.{HasDimensions};
 ghost use Rattle.command_lines.specs.RuleWords.{AreRightRules};
 ghost use Rattle.command_lines.specs.VersionWords.{AreVersionWords};
@@ -15,20 +15,22 @@ ghost use Rattle.command_lines.specs.WrongWords.{AreWrongWords};
 
 use crate::arguments::{bands_of, dimensions_of, fit_of, name_of};
 use crate::asked::{Asked, CommandLine, STANDARD_INPUT};
-use crate::declared::metaplay;
+use crate::declared::{command_named, metaplay};
 use crate::rule_words::rules_of;
 use clap::error::ErrorKind;
 use clap::{ArgMatches, Error};
 use std::alloc::{AllocError, Global};
 
 /// Parses the words of a command line, the program's name first, with `clap`. The error contains the text to show to
-/// the user; help is an error too. If the words are right for a command, parsing can fail only because an allocation
-/// failed. Words that ask for the version can't fail: they are compared here, and `clap` knows nothing of them.
+/// the user; help is an error too. If the words are right for a command, or `clap` accepts them and what they give is
+/// right, parsing can fail only because an allocation failed. Words that ask for the version can't fail: they are
+/// compared here, and `clap` knows nothing of them.
 pub fn line<'a>(alloc: Global, words: &'a [String]) -> Result<Asked<'a>, Error>
     ensures valid { IfOk result IsValid }
     ensures asked { IfOk result (IsAskedFor (texts_of words.entry.now)) }
     ensures plain { IfOk result (HasPlainWords (texts_of words.entry.now)) }
     ensures taken { IfErr result (λ e. AreCommandWords (texts_of words.entry.now) → kind_of e ≡ ErrorKind.OutOfMemory) }
+    ensures accepted { IfErr result (λ e. AreAccepted (texts_of words.entry.now) → kind_of e ≡ ErrorKind.OutOfMemory) }
     ensures version { AreVersionWords (texts_of words.entry.now) → result ≡ Ok Asked.Version }
     ensures refused { IfOk result (λ _. AreWrongWords (texts_of words.entry.now) → ⊥) }
 {
@@ -40,10 +42,7 @@ pub fn line<'a>(alloc: Global, words: &'a [String]) -> Result<Asked<'a>, Error>
     let matches = command.try_get_matches_from_mut(words)?;
     match asked(alloc, &matches)? {
         Some(asked) => Ok(asked),
-        None => {
-            let why = why_wrong(&matches);
-            Err(command.error(ErrorKind::ArgumentConflict, why)?)
-        }
+        None => Err(wrong_usage(alloc, &matches)?),
     }
 }
 
@@ -59,6 +58,15 @@ fn count_law(words: &[String])
     ensures { length words.now ≤ usize_max }
 {
     let _ = words.len();
+}
+
+/// The error for what was found, with the usage of its command.
+fn wrong_usage(alloc: Global, matches: &ArgMatches<'_>) -> Result<Error, AllocError>
+    ensures { IfOk result (λ e. kind_of e ≡ ErrorKind.ArgumentConflict) }
+{
+    let name = matches.subcommand_name().unwrap_or("");
+    let mut command = command_named(alloc, name)?;
+    command.error(ErrorKind::ArgumentConflict, why_wrong(matches))
 }
 
 /// What is wrong with what was found: the arguments for its rules, or its names.

@@ -73,6 +73,23 @@ pub(crate) fn metaplay<'a>(alloc: Global) -> Result<Command<'a>, AllocError>
         .subcommand(info)
 }
 
+/// The command with this name by itself, or else the whole command line: an error of it shows its usage.
+pub(crate) fn command_named<'a>(alloc: Global, name: &str) -> Result<Command<'a>, AllocError> {
+    if name == "show" {
+        return show(alloc)?.bin_name("metaplay show");
+    }
+    if name == "prepare" {
+        return prepare(alloc)?.bin_name("metaplay prepare");
+    }
+    if name == "list" {
+        return list(alloc)?.bin_name("metaplay list");
+    }
+    if name == "info" {
+        return info(alloc)?.bin_name("metaplay info");
+    }
+    metaplay(alloc)
+}
+
 /// The command `show`.
 fn show<'a>(alloc: Global) -> Result<Command<'a>, AllocError>
     ensures { IfOk result (IsLocalApp show_app) }

@@ -1,5 +1,6 @@
 -- What the command of a command line writes to its streams.
-use Rattle.std.specs.Prelude.{◌≡◌, ◌⊎◌, ℕ, List, Option, codes, ⊤}
+use Rattle.std.specs.Prelude.{◌≡◌, ◌⊎◌, ℕ, if◌then◌else◌, List, Option, Some, None, codes, ⊤}
+use Rattle.std.specs.Str.{bytes_eq}
 use Rattle.std.specs.Io.KnownBytes.{Keeps}
 use Rattle.clap.specs.Words.{Text}
 use Rattle.command_lines.specs.CommandLine.{HoldsOfAsked, texts_of}
@@ -27,6 +28,11 @@ use Rattle.commands.specs.declared.inputs.Inputs.{Inputs}
 abbrev pub PreparesNamedFile : CommandLine → Type 0
 PreparesNamedFile (Prepare name rules width height output) = name.now ≡ standard_input → ⊥
 PreparesNamedFile line = ⊥
+
+-- the names of the metafile and of the certificate that is prepared of it; standard input has no name
+abbrev pub prepared_names : CommandLine → Option (Text × Text)
+prepared_names (Prepare name rules width height output) = if bytes_eq name.now standard_input then None else Some (name.now, output.now)
+prepared_names line = None
 
 -- the task of a command line, if its file, certificate and image have these bytes
 abbrev pub task_of : CommandLine → List ℕ → List ℕ → List ℕ → Task

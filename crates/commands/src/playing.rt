@@ -50,10 +50,10 @@ pub(crate) struct AskedSurface {
     pub(crate) ghost high: { 1 ≤ height },
 }
 
-/// The number of rows in a band.
+/// The number of rows in a band. If the program chooses, it has at most 8 rows, or at most 2^20 pixels.
 fn band_rows(asked: AskedSurface, cleared: &Cleared<'_>) -> u32
     requires { IfSome asked.bands (λ rows. 1 ≤ rows) }
-    ensures { 1 ≤ result }
+    ensures some { 1 ≤ result }
 {
     match asked.bands {
         Some(rows) => rows,
@@ -63,7 +63,9 @@ fn band_rows(asked: AskedSurface, cleared: &Cleared<'_>) -> u32
 
 /// The number of pixels in a band. It is larger if reading the records again for each band is more work. A small band
 /// stays in the processor's cache.
-fn band_pixels(asked: AskedSurface, cleared: &Cleared<'_>) -> u32 {
+fn band_pixels(asked: AskedSurface, cleared: &Cleared<'_>) -> u32
+    ensures { result ≤ 2 ^ 20 }
+{
     let surface = u64::from(asked.width).saturating_mul(u64::from(asked.height));
     let lines = u64::from(cleared.certificate.needs.edges).saturating_add(1);
     let work = u64::from(cleared.records).saturating_mul(lines);
@@ -74,7 +76,7 @@ fn band_pixels(asked: AskedSurface, cleared: &Cleared<'_>) -> u32 {
 
 /// The most pixels of a band of this surface. Each band but the first reads the records again.
 fn most_pixels(surface: u64, work: u64) -> u64
-    ensures { result < 2 ^ 32 }
+    ensures { result ≤ 2 ^ 20 }
 {
     let again = surface.saturating_sub(1) / CACHED_PIXELS;
     if again.saturating_mul(work) <= SOME_WORK {

@@ -1,45 +1,21 @@
--- Letting go of an index: one state after another, and where nothing has it selected.
-use Rattle.std.proofs.Common.{◌≡◌, ℕ, ◌+◌, ◌<◌, Bool, true, false, ◌&&◌, ◌||◌, not, if◌then◌else◌, List, [], ◌∷◌, ◌++◌, length, get_or, drop, take, map, Option, Some, None, refl, subst, sym, ap, ◌∙◌, arith}
+-- Letting go of an index, and where nothing has it selected.
+use Rattle.std.proofs.Common.{◌≡◌, ◌≢◌, ◌==◌, ℕ, ◌+◌, ◌-◌, ◌^◌, ◌<◌, Bool, true, false, ◌&&◌, ◌||◌, not, if◌then◌else◌, List, [], ◌∷◌, length, get_or, map, Option, Some, None, refl, subst, sym, ap, ◌∙◌, arith}
 use Rattle.std.specs.List.{All, list_any}
+use Rattle.std.proofs.lemmas.Bool.{eqb-true, ne_eqb}
 use Rattle.std.specs.Option.{option_or}
-use Rattle.std.proofs.Math.ListN.{set}
-use Rattle.std.proofs.lemmas.List.{append-nil, drop-set-lt, drop_all, drop_more, get_or-map, length-map, take_all, take_more, take_more_set}
+use Rattle.std.proofs.lemmas.List.{get_or-map, length-map}
 use Rattle.mapping.specs.Surface.{Surface}
 use Rattle.draw_ops.specs.RuleSets.{allows_held_deletion}
 use Rattle.draw_ops.specs.declared.record_fault.RecordFault.{RecordFault}
 use Rattle.draw_ops.specs.declared.record_fault.RecordFault.TheVariants.{HeldObject, NoSuchHandle}
 use Rattle.dc_stack.specs.Deleting.{after_deleting, dc_without, other_index, without_index}
-use Rattle.dc_stack.specs.DeletionLaws.{DeletionLaws}
+use Rattle.dc_stack.specs.DeletionLaws.{DeletionLaws, values_of}
 use Rattle.dc_stack.specs.Selecting.{is_in_use, is_index_of, selects}
 use Rattle.dc_stack.specs.declared.clip.Clip.{Clip}
 use Rattle.dc_stack.specs.declared.dc.Dc.{Dc}
 use Rattle.dc_stack.specs.State.{DcValue, Selections, State, with_slots}
 use Rattle.dc_stack.specs.Values.{IsPlacedOn}
 use Rattle.object_tables.specs.Slots.{is_taken, without_object}
-
--- what is still to come has the same first state, and the same others
-first_same : (place : ℕ) (d : DcValue) (before now_ : List DcValue) → place < length before → place < length now_ → drop place now_ ≡ drop place before → (get_or now_ place d ≡ get_or before place d) × (drop (place + 1) now_ ≡ drop (place + 1) before)
-first_same place d before now_ within inside others =
-    let a = drop_more now_ place d inside in
-    let b = drop_more before place d within in
-    let both : get_or now_ place d ∷ drop (place + 1) now_ ≡ get_or before place d ∷ drop (place + 1) before = sym a ∙ others ∙ b in
-    (cc both, cc both)
-
-module _ (f : DcValue → DcValue) where
-  map-append : (xs ys : List DcValue) → map f (xs ++ ys) ≡ map f xs ++ map f ys
-  map-append [] ys = refl
-  map-append (x ∷ xs) ys = ap (λ es. f x ∷ es) (map-append xs ys)
-
-  -- one state more is changed
-  pub one_more : (place : ℕ) (d : DcValue) (before now_ after : List DcValue) → place < length before → length now_ ≡ length before → take place now_ ≡ map f (take place before) → drop place now_ ≡ drop place before → after ≡ set now_ place (f (get_or now_ place d)) → (take (place + 1) after ≡ map f (take (place + 1) before)) × (drop (place + 1) after ≡ drop (place + 1) before)
-  one_more place d before now_ after within len ahead others is =
-      let same = first_same place d before now_ within (omega (arith, len, within)) others in
-      let one = f (get_or now_ place d) in
-      let taken = take_more_set now_ place one (omega (arith, len, within)) in
-      let more = ap (map f) (take_more before place d within) ∙ map-append (take place before) (get_or before place d ∷ []) in (
-        ap (take (place + 1)) is ∙ taken ∙ ap (λ es. es ++ one ∷ []) ahead ∙ ap (λ e. map f (take place before) ++ f e ∷ []) same.0 ∙ sym more,
-        ap (drop (place + 1)) is ∙ drop-set-lt (place + 1) now_ place one (omega arith) ∙ same.1,
-      )
 
 -- nothing changes where the index isn't selected
 same_index : (index : ℕ) (kept : Option ℕ) → is_index_of index kept ≡ false → other_index index kept ≡ kept
@@ -98,11 +74,46 @@ unsaved index (dc ∷ saved) = rw (unselected index dc.selected) (unsaved index 
 let_go : (index : ℕ) (state : State) → is_in_use index (after_deleting index state) ≡ false
 let_go index state = rw (unselected index state.dc.selected) (unsaved index state.saved)
 
+-- no other index is let go
+other_stays : (index other : ℕ) (kept : Option ℕ) → other ≢ index → is_index_of other (other_index index kept) ≡ is_index_of other kept
+other_stays index other None apart = refl
+other_stays index other (Some kept) apart = by_test (kept == index) refl
+  where
+    by_test : (same : Bool) → (kept == index) ≡ same → is_index_of other (if same then None else Some kept) ≡ (kept == other)
+    by_test true e = sym (ne_eqb kept other (λ (f : kept ≡ other). apart (sym f ∙ eqb-true kept index e)))
+    by_test false e = refl
+
+selects_others : (index other : ℕ) (s : Selections) → other ≢ index → selects other (without_index index s) ≡ selects other s
+selects_others index other s apart =
+    rw (other_stays index other s.pen.index apart, other_stays index other s.brush.index apart, other_stays index other s.font apart, other_stays index other s.palette apart) refl
+
+saved_stay : (index other : ℕ) (saved : List DcValue) → other ≢ index
+    → list_any (λ (dc : DcValue). selects other dc.selected) (map (dc_without index) saved) ≡ list_any (λ (dc : DcValue). selects other dc.selected) saved
+saved_stay index other [] apart = refl
+saved_stay index other (dc ∷ saved) apart = rw (selects_others index other dc.selected apart, saved_stay index other saved apart) refl
+
+others_stay : (index other : ℕ) (state : State) → other ≢ index → is_in_use other (after_deleting index state) ≡ is_in_use other state
+others_stay index other state apart = rw (selects_others index other state.dc.selected apart, saved_stay index other state.saved apart) refl
+
+-- values are kept
+saved_values : (index : ℕ) (saved : List DcValue) → map values_of (map (dc_without index) saved) ≡ map values_of saved
+saved_values index [] = refl
+saved_values index (dc ∷ saved) = ap (λ (ds : List DcValue). values_of dc ∷ ds) (saved_values index saved)
+
+-- the deletion is counted
+one_more_counted : (index : ℕ) (state : State) → is_in_use index state ≡ true → state.held_deletions < 2 ^ 32 - 1 → (after_deleting index state).held_deletions ≡ state.held_deletions + 1
+one_more_counted index state e few = rw e (omega (arith, few))
+
 pub deletion_laws : DeletionLaws
 deletion_laws = record {
   held = λ index state s leave taken selected. held (is_taken index state.slots) (is_in_use index state) (allows_held_deletion state.rules) leave taken selected;
   allowed = λ index state s leave taken. permitted (is_taken index state.slots) (is_in_use index state) (allows_held_deletion state.rules) leave taken;
   let_go = let_go;
+  others_stay = others_stay;
+  keeps_values = λ index state. refl;
+  keeps_saved = λ index state. saved_values index state.saved;
+  removed = λ index state. refl;
+  counted = one_more_counted;
   others = not_held;
 }
 
@@ -116,9 +127,3 @@ placed_same s before after same all i d within =
     sym (get_or-map clip after i d d.clip within) ∙ ap (λ (cs : List Clip). get_or cs i d.clip) same ∙ get_or-map clip before i d d.clip inside
     in
     subst (λ (c : Clip). IsPlacedOn s c) (sym e) (all i d inside)
-
--- what was written to a slice of all states is all that there is
-pub written : (n : ℕ) (items after : List Dc) → n ≡ length items → length after ≡ length items → take n (after ++ drop (length after) items) ≡ after
-written n items after all same =
-    let rest : drop (length after) items ≡ [] = drop_all (length after) items (omega (arith, same)) in
-    ap (λ (ds : List Dc). take n (after ++ ds)) rest ∙ ap (take n) (append-nil after) ∙ take_all n after (omega (arith, all, same))

@@ -1,4 +1,4 @@
--- Deleting objects: a state that has one selected keeps its values without its index.
+-- Deletions of objects. A state that has the object selected keeps the values of the object, but not its index.
 use Rattle.std.specs.Prelude.{ℕ, suc, ◌^◌, ◌-◌, min, if◌then◌else◌, map, Option, None}
 use Rattle.object_tables.specs.Slots.{without_object}
 use Rattle.dc_stack.specs.Selecting.{is_in_use, is_index_of}

@@ -16,7 +16,8 @@ pub fn fault_law()
 }
 
 /// A selected object can be deleted exactly if the rules allow that, which those of the core profile don't. Afterwards
-/// nothing has its index selected. A deletion of any other object only takes it from the table.
+/// nothing has its index selected, what was selected keeps its values, and the deletion is counted. A deletion of any
+/// other object only takes it from the table.
 pub fn deletion_law()
     ensures { DeletionLaws }
 {}

@@ -15,8 +15,8 @@
 //! - The needs are the greatest of all steps since the start (`Machine::needs`).
 //! - The clip of a machine contains a pixel exactly if the definition says so (`Machine::dc`, `Clip::has`).
 //! - Where the rules don't allow it, a selected object can't be deleted, and a deletion only takes an object from the
-//!   table (`deletion_law`). Where they do, what has the object selected keeps its values, without its index, and the
-//!   deletion is counted (`Machine::step`, by `after_deleting`; `held_deletions`).
+//!   table. Where they do, what has the object selected keeps its values, without its index, and the deletion is counted
+//!   (`deletion_law`, `Machine::held_deletions`).
 //! - Only two faults depend on the surface: being off the plane and having a nib that is too wide. An operation without
 //!   a fault on a surface has none on a smaller one. With a fault it has the same one on each larger surface, except
 //!   that a nib that is too wide may be off the plane there (`fault_law`).

@@ -281,6 +281,13 @@ impl<'a, T: Table<'a>> Machine<'a, T> {
         &self.dc
     }
 
+    /// The rules under which the file is played.
+    pub fn rules(&self) -> Rules
+        ensures { result ≡ self.now.state.rules }
+    {
+        self.rules
+    }
+
     /// How many objects were deleted while they were selected, since the start, at most 2^32 - 1.
     pub fn held_deletions(&self) -> u32
         ensures { result ≡ self.now.state.held_deletions }

@@ -2,8 +2,8 @@
 //!
 //! # What is promised
 //!
-//! - Rules have a fine plane under the print profile alone, and allow more only under that (`Rules::has_fine_plane`,
-//!   `allows_held_deletion`, `allows_emf_plus`).
+//! - Only rules of the print profile can allow deletions of selected objects. A file with EMF+ and no drawing is allowed
+//!   under core, and under print if the rules say so (`Rules::allows_held_deletion`, `allows_emf_plus`, `in_force`).
 //! - Each fault has one code and one name, as the table of faults says (`Fault::code`, `Fault::name`, `Fault::number`,
 //!   by `fault_row` and `record_kind_of`).
 //! - Each code and name in the tables of faults and notes is unique, and none is left out (`table_law`).

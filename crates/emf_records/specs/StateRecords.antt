@@ -24,7 +24,8 @@ abbrev pub ext_select_clip_rgn : List ℕ → Result DecodedValue RecordFault
 ext_select_clip_rgn bytes =
     needs_bytes 16 bytes (if number_at bytes 8 4 == 0 && number_at bytes 12 4 == 5 then Ok (unnoted remove_clip) else Err (Unsupported 75))
 
--- EMR_COMMENT: the comment's length and the comment; it is an EMF+ comment if it begins with `EMF+` ([MS-EMF] 2.3.3.2)
+-- EMR_COMMENT: the comment's length and the comment; it is an EMF+ comment if it begins with `EMF+` ([MS-EMF] 2.3.3.2),
+-- whatever its length says (ours)
 abbrev pub comment : List ℕ → Result DecodedValue RecordFault
 comment bytes =
     if nat_le 16 (length bytes) && number_at bytes 12 4 == 0x2b464d45 then Ok (noting EmfPlus no_effect) else Ok (noting NoteSkipped no_effect)

@@ -4,7 +4,7 @@ use Rattle.std.proofs.lemmas.List.{append_assoc}
 use Rattle.serde_json.specs.Data.{Data, Items, Members, array, boolean, member, no_members, null, object, put, string}
 use Rattle.serde_json.specs.Written.{compact_text, has_float, items_text, members_have_float, members_text}
 use Rattle.mapping.specs.declared.geometry.Rect.{Rect}
-use Rattle.draw_ops.specs.RuleSets.{has_fine_plane}
+use Rattle.draw_ops.specs.RuleSets.{is_print}
 use Rattle.meta_headers.specs.declared.opened.FileFormat.{FileFormat}
 use Rattle.report_parts.specs.Parts.{notes_data, report_text, whole_if}
 use Rattle.report_parts.specs.Whole.{if_whole, notes_whole, profile_whole, put_whole}
@@ -86,14 +86,14 @@ module _ (first last : Members) (items : Items) (starts_last : starts last ≡ t
 
 -- there are first and last members under each profile
 starts_first : (info : FileInfo) → starts (first_members info) ≡ true
-starts_first info = by_profile (has_fine_plane info.rules)
+starts_first info = by_profile (is_print info.rules)
   where
     by_profile : (fine : Bool) → starts (if fine then put (codes "allowed") (uses_if info.playing) (plain_first info) else plain_first info) ≡ true
     by_profile true = refl
     by_profile false = refl
 
 starts_last : (name : List ℕ) (info : FileInfo) → starts (last_members name info) ≡ true
-starts_last name info = by_profile (has_fine_plane info.rules)
+starts_last name info = by_profile (is_print info.rules)
   where
     by_profile : (fine : Bool) → starts (if fine then put (codes "profile") (string (codes "print")) (plain_last name info) else plain_last name info) ≡ true
     by_profile true = refl

@@ -230,7 +230,7 @@ module _ (laws : FaultLaws) (nibs : NibLaws) (one : FramedInOneWay) (by_function
       let all = content_of f (meaning_of o.format) 0 framed in
       let all_stop : stop_of all (start_of o) s ≡ Some (stop_at number fault) = ap (λ (c : Content). stop_of c (start_of o) s) (sym decoded) ∙ stops in
       let counted : 0 + length all.steps ≡ length all.steps = omega arith in
-      reported laws nibs by_function rules o.rules file o.format (surface_for o 1 1) s (surface_for o surface_side_limit surface_side_limit) (record { wide = largest.wide; high = largest.high }) largest
+      reported laws nibs by_function rules file o.format (surface_for o 1 1) s (surface_for o surface_side_limit surface_side_limit) (record { wide = largest.wide; high = largest.high }) largest
       (up_from_smallest o width height wide high) (up_to_largest o width height wide high) (length all.steps) number fault (end_of all (start_of o))
       framed.records 0 (first_place o.format) framed.after framed.fault (start_of o) none_found refl counted refl all_stop
       (some_record f (record_bytes o.format file) framed (by_function f (record_bytes o.format file))) (reached_first rules file o opens)
@@ -250,7 +250,7 @@ module _ (laws : FaultLaws) (nibs : NibLaws) (one : FramedInOneWay) (by_function
       by_reading : (o : OpenedValue) → opened_by rules file ≡ Ok o → (read : Result CertificateValue Fault) → read_certificate certificate ≡ read → AnswersRead read o (record_bytes o.format file) (rejects (Some number) (InRecord fault)) → ReportsStop rules file number fault
       by_reading o opens (Err e) reads h = absurd (in_a_record h)
       by_reading o opens (Ok c) reads h =
-          let is = text.is_certificate certificate c bytes reads in
+          let is = (text.is_certificate certificate c bytes reads).within in
           let stops = stops_in_run h.content.steps (end_of h.content (start_of o)) (length h.content.steps) (start_of o) (bound_of o c) c.entries not_entry not_box not_nib (rejected_at number fault (check_of h.content (start_of o) (bound_of o c) c.entries) _ (sym h.answers)) in
           reports_stop o h.content c.max_width c.max_height number fault opens h.of_records is.wide is.high stops
 

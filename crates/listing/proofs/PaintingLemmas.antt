@@ -128,7 +128,7 @@ pub no_painting_off : NoPaintingIsOffPlane
 no_painting_off is_end None step h = λ e. cc
 no_painting_off is_end (Some dry_run_state) step h =
     by_two (fault_met step.operation dry_run_state.state dry_run_state.largest)
-    (is_end && (is_emf_plus_alone dry_run_state.rules dry_run_state.found && not (allows_emf_plus dry_run_state.rules)))
+    (is_end && (is_emf_plus_alone dry_run_state.state.rules dry_run_state.found && not (allows_emf_plus dry_run_state.state.rules)))
     (never_off step.operation dry_run_state.state dry_run_state.largest h)
   where
     by_two : (met : Option RecordFault) (alone : Bool) → met ≢ Some OffPlane → option_or met (if alone then Some EmfPlusAlone else None) ≢ Some OffPlane

@@ -31,6 +31,7 @@ use Rattle.listing.specs.Line.{fault_line, head_of, line_of, decoded_text, rejec
 use Rattle.listing.specs.Listing.{last_line, lines_of}
 use Rattle.listing.specs.ListingLaws.{ReportsFault, ReportsRejected, ReportsStop, rejected_line}
 use Rattle.listing.proofs.EndLemmas.{end_meaning, end_step, found_at_end, is_alone, joined, joined_none, joined_then, none_met, told_at_end}
+use Rattle.preflight_cert.proofs.CoreLemmas.{rules_kept}
 use Rattle.listing.proofs.FileLemmas.{IsReached, end_reached, line_here, line_last, own_break, own_record, reached_next}
 use Rattle.listing.proofs.DryRunStateLemmas.{OnLarger}
 use Rattle.listing.proofs.PaintingLemmas.{met_on_larger}
@@ -53,18 +54,20 @@ same_fault e = ap (λ (stop : Stop). stop.fault) (same_stop e)
 same_decoded : {one other : DecodedValue} → decoded_so one ≡ decoded_so other → one ≡ other
 same_decoded e = cc
 
-module _ (laws : FaultLaws) (nibs : NibLaws) (by_function : FramedByFunction) (rules force : Rules) (file : List ℕ) (format : FileFormat) (smallest s largest : Surface) (shows : ShowsFrame s) (shows_largest : ShowsFrame largest) (up : IsNoLarger smallest s) (down : IsNoLarger s largest) (total number : ℕ) (fault : RecordFault) (last : Option Stop) where
+module _ (laws : FaultLaws) (nibs : NibLaws) (by_function : FramedByFunction) (rules : Rules) (file : List ℕ) (format : FileFormat) (smallest s largest : Surface) (shows : ShowsFrame s) (shows_largest : ShowsFrame largest) (up : IsNoLarger smallest s) (down : IsNoLarger s largest) (total number : ℕ) (fault : RecordFault) (last : Option Stop) where
   -- what a record is judged by in a state
   abbrev dry_run_state_in : State → EmfPlus → DryRunState
-  dry_run_state_in state found = record { state = state; rules = force; found = found; smallest = smallest; largest = largest }
+  dry_run_state_in state found = record { state = state; found = found; smallest = smallest; largest = largest }
 
   -- a run on the surface stops so in a content, and this stops it behind the content's steps
   abbrev Stops : Content → State → Type 0
   Stops content state = stopped content.steps last state s ≡ Some (stop_at number fault)
 
+  abbrev end_by : Rules → Content → EmfPlus → Option Stop
+  end_by by content found = option_or (broken_after total content.fault) (emf_plus_stop by (is_emf_plus_alone by found) total)
+
   abbrev end_with : Content → State → EmfPlus → Option Stop
-  end_with content state found =
-      option_or (broken_after total content.fault) (emf_plus_stop force (is_emf_plus_alone force (joined found (emf_plus_of content.steps state))) total)
+  end_with content state found = end_by state.rules content (joined found (emf_plus_of content.steps state))
 
   abbrev Ends : Content → State → EmfPlus → Type 0
   Ends content state found = last ≡ end_with content state found
@@ -152,13 +155,13 @@ module _ (laws : FaultLaws) (nibs : NibLaws) (by_function : FramedByFunction) (r
         ap (λ (k : Content). end_with k (next step.operation state) (found_with found step state)) (sym nothing) ∙ sym ends ∙ at in
         let same_found : joined (found_with found step state) (emf_plus_of [] (next step.operation state)) ≡ found =
         joined_none (found_with found step state) (next step.operation state) ∙ found_at_end found is_last after n state in
-        let alone = is_alone force found total number fault (ap (λ (f : EmfPlus). emf_plus_stop force (is_emf_plus_alone force f) total) (sym same_found) ∙ by) in
+        let alone = is_alone state.rules found total number fault (ap (λ (f : EmfPlus). emf_plus_stop state.rules (is_emf_plus_alone state.rules f) total) (sym same_found) ∙ by) in
         let at_end = alone.last in
         let here : n ≡ number = omega (arith, all, size, at_end) in
         let ended : is_last ≡ true = eq-eqb _ _ it.ends in
         let told : run_in state found step ≡ Some EmfPlusAlone =
-        ap (λ (met : Option RecordFault). option_or met (end_fault is_last force found)) (none_met is_last after n state largest)
-        ∙ told_at_end force found is_last ended alone.alone in
+        ap (λ (met : Option RecordFault). option_or met (end_fault is_last state.rules found)) (none_met is_last after n state largest)
+        ∙ told_at_end state.rules found is_last ended alone.alone in
         subst (λ (f : RecordFault). ReportsStop rules file number f) alone.same
         (inl (inl (rejected_here (run_in state found step) (Ok step) rest EmfPlusAlone (ap (λ (run : Option RecordFault). decoded_text run (Ok step)) told) here reached)))
 
@@ -201,7 +204,8 @@ module _ (laws : FaultLaws) (nibs : NibLaws) (by_function : FramedByFunction) (r
     by_meaning state found (Ok decoded) means lands later all ends stops place_in reached =
         let step = step_decoded is_last after n decoded in
         let onward : Ends others (next step.operation state) (found_with found step state) =
-        ends ∙ ap (λ (f : EmfPlus). option_or (broken_after total others.fault) (emf_plus_stop force (is_emf_plus_alone force f) total)) (joined_then found step others.steps state) in
+        ends ∙ ap (λ (f : EmfPlus). end_by state.rules others f) (joined_then found step others.steps state)
+        ∙ ap (λ (r : Rules). end_by r others (joined (found_with found step state) (emf_plus_of others.steps (next step.operation state)))) (sym (rules_kept step.operation state)) in
         by_fault state found step (fault_of step.operation state s) lands later refl (omega (arith, all)) onward stops
         (elim place_in [ inl it ↦ inl (it, step_at_end decoded means it) | inr more ↦ inr more ]) reached
 

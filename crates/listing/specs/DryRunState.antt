@@ -29,11 +29,10 @@ use Rattle.dc_stack.specs.declared.draw.Draw.{Draw}
 use Rattle.preflight_cert.specs.EmfPlus.{is_emf_plus_alone}
 use Rattle.preflight_cert.specs.declared.emf_plus.EmfPlus.{EmfPlus}
 
--- What determines a record's fault, as long as a run may reach it: the state after the records before it, the rules,
--- whether those records contain EMF+ and whether they draw, and the smallest and the largest surface.
+-- What determines a record's fault, as long as a run may reach it: the state after the records before it, whether those
+-- records contain EMF+ and whether they draw, and the smallest and the largest surface.
 pub record DryRunState : Type 0 where
   pub state : State
-  pub rules : Rules
   pub found : EmfPlus
   pub smallest : Surface
   pub largest : Surface
@@ -70,13 +69,13 @@ end_fault is_end rules found =
     if is_end && (is_emf_plus_alone rules found && not (allows_emf_plus rules)) then Some EmfPlusAlone else None
 
 -- The fault of a step in runs, which is that of the end record or not: the one in its operation on the largest surface,
--- or else that of EMF+ without a drawing. A run that stops at it on some surface has the same fault, or else a nib that
--- is too wide while it is off the plane on the largest. There is none after a record at which every run stops.
+-- or else that of EMF+ without a drawing. A run that stops at it on some surface has the same fault there, except that a
+-- nib may be too wide there which is off the plane on the largest. After a record at which every run stops there is none.
 abbrev pub run_fault : Bool → Option DryRunState → StepValue → Option RecordFault
 run_fault is_end None step = None
 run_fault is_end (Some dry_run_state) step =
     option_or (fault_met step.operation dry_run_state.state dry_run_state.largest)
-    (end_fault is_end dry_run_state.rules dry_run_state.found)
+    (end_fault is_end dry_run_state.state.rules dry_run_state.found)
 
 -- the fault in runs of a decoded record; a fault of its meaning comes before any fault of a run
 abbrev pub fault_in_runs : Bool → Option DryRunState → Result StepValue RecordFault → Option RecordFault
@@ -99,7 +98,6 @@ found_with found step state = record {
 abbrev pub after_played : StepValue → DryRunState → DryRunState
 after_played step dry_run_state = record {
   state = next step.operation dry_run_state.state;
-  rules = dry_run_state.rules;
   found = found_with dry_run_state.found step dry_run_state.state;
   smallest = dry_run_state.smallest;
   largest = dry_run_state.largest;
@@ -120,7 +118,6 @@ after_record dry_run_state (Ok step) = after_step dry_run_state step
 abbrev pub start_dry_run : OpenedValue → DryRunState
 start_dry_run o = record {
   state = start_of o;
-  rules = o.rules;
   found = record { is_contained = false; is_drawn = false };
   smallest = surface_for o 1 1;
   largest = surface_for o surface_side_limit surface_side_limit;

@@ -30,7 +30,6 @@ use std::marker::Model;
 #[derive(Drop)]
 struct SmallestRun<'a> {
     machine: Machine<'a, FileTable<'a>>,
-    rules: Rules,
     /// Whether the records so far contain EMF+, and whether they draw.
     found: EmfPlus,
     largest: Place,
@@ -42,7 +41,7 @@ impl<'a> Model for SmallestRun<'a> {
 
     ghost Value = { DryRunState };
 
-    ghost view = { λ r. record { state = r.machine.state; rules = r.rules; found = r.found; smallest = r.machine.surface; largest = surface_of r.largest } };
+    ghost view = { λ r. record { state = r.machine.state; found = r.found; smallest = r.machine.surface; largest = surface_of r.largest } };
 
     ghost invariant = { λ r. IsOnItsWay r.machine (surface_of r.largest) };
 }
@@ -60,7 +59,6 @@ impl<'a> SmallestRun<'a> {
         match machine.reserve(MAX_SAVED_STATES, slots, MAX_PIECES) {
             Ok(()) => Ok(SmallestRun {
                 machine,
-                rules: opened.rules,
                 found: EmfPlus::NONE,
                 largest,
             }),
@@ -90,9 +88,10 @@ impl<'a> SmallestRun<'a> {
 
     /// The fault of the end record, if the records before it contain EMF+ and don't draw, unless the rules allow that.
     fn end_fault(&self, is_end: bool) -> Option<RecordFault>
-        ensures { result ≡ end_fault is_end self.now.rules self.now.found }
+        ensures { result ≡ end_fault is_end self.now.state.rules self.now.found }
     {
-        if is_end && self.found.is_alone(self.rules) && !self.rules.allows_emf_plus() {
+        let rules = self.machine.rules();
+        if is_end && self.found.is_alone(rules) && !rules.allows_emf_plus() {
             return Some(RecordFault::EmfPlusAlone);
         }
         None

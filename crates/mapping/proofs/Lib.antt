@@ -21,3 +21,4 @@ pub mod MapLemmas
 pub mod RestLemmas
 pub mod PartLemmas
 pub mod WorkedParts
+pub mod ChangedLists

@@ -35,7 +35,7 @@ allowed side (parts ∷ fewer) all =
     let both = and_parts (nat_le 1 parts) (nat_le parts 4096) here.0 in
     either (nat_le (parts * side) (2 ^ 20)) parts (first_fine side fewer) (λ n. (1 ≤ n) × (n ≤ 4096)) (λ h. (leb-true _ _ both.0, leb-true _ _ both.1)) (allowed side fewer here.1)
 
-counts_of : (frame : Frame) → (1 ≤ fine_parts frame) × (fine_parts frame ≤ 4096)
+counts_of : (frame : Frame) → (1 ≤ fine_parts frame.width frame.height) × (fine_parts frame.width frame.height ≤ 4096)
 counts_of frame = allowed (max frame.width frame.height) part_counts refl
 
 -- a side no longer than the longer one is within the limits in parts
@@ -88,8 +88,8 @@ pub part_laws : PartLaws
 part_laws = record {
   some = λ frame. (counts_of frame).0;
   few = λ frame. (counts_of frame).1;
-  wide = λ frame. side_fits frame.width (max frame.width frame.height) (fine_parts frame) frame.wide (omega arith) (counts_of frame).0 (fits (max frame.width frame.height) part_counts);
-  high = λ frame. side_fits frame.height (max frame.width frame.height) (fine_parts frame) frame.high (omega arith) (counts_of frame).0 (fits (max frame.width frame.height) part_counts);
+  wide = λ frame. side_fits frame.width (max frame.width frame.height) (fine_parts frame.width frame.height) frame.wide (omega arith) (counts_of frame).0 (fits (max frame.width frame.height) part_counts);
+  high = λ frame. side_fits frame.height (max frame.width frame.height) (fine_parts frame.width frame.height) frame.high (omega arith) (counts_of frame).0 (fits (max frame.width frame.height) part_counts);
   short = λ frame. fits (max frame.width frame.height) part_counts;
   one_part = one_part;
   one_part_nib = one_part_nib;

@@ -6,7 +6,7 @@ use Rattle.mapping.specs.Limits.{plane_limit, IsWithin, is_within, within_from, 
 use Rattle.mapping.specs.declared.geometry.Point.{Point}
 use Rattle.mapping.specs.declared.map_mode.MapMode.{MapMode}
 
--- the numbers of a page map on one axis; a unit of the frame has `parts` parts of the plane
+-- the numbers of a page map on one axis; a unit of the frame has this many `parts`
 pub record AxisNumbers : Type 0 where
   pub parts : ℕ
   pub window_origin : ℤ

@@ -1,6 +1,6 @@
 //! One axis of a page map with its number of parts: where its coordinates land on the plane.
 
-ghost use Rattle.std.specs.Prelude.{◌≡◌, ◌≢◌, ◌+◌, ◌^◌, ◌<◌, ◌≤◌, pos, ◌+ℤ◌, ◌-ℤ◌, ◌*ℤ◌, unsigned_abs, SomeIff, is_some};
+ghost use Rattle.std.specs.Prelude.{◌≡◌, ◌≢◌, ◌+◌, ◌^◌, ◌<◌, ◌≤◌, pos, ◌+ℤ◌, ◌-ℤ◌, ◌*ℤ◌, unsigned_abs, SomeIff, is_some, true};
 ghost use Rattle.mapping.specs.Floor.{floor_div};
 ghost use Rattle.mapping.specs.Limits.{is_within, plane_limit};
 ghost use Rattle.mapping.specs.Plane.{IsPlaneCoordinate};
@@ -28,6 +28,7 @@ pub(crate) struct FineAxis {
 }
 
 impl FineAxis {
+    ghost use Rattle.mapping.specs.OneToOne.{has_same_extents};
     ghost use Rattle.mapping.specs.PageMap.{fine_coordinate, fine_distance, scaled_distance};
 
     /// The plane coordinate of a page coordinate. `None` if it would leave the plane.
@@ -42,12 +43,16 @@ impl FineAxis {
         }
     }
 
-    /// The same for a coordinate of 32 bits. Mostly one division is enough.
+    /// The same for a coordinate of 32 bits. Nothing is divided if both extents are the same, and otherwise one division is
+    /// mostly enough.
     #[inline]
     fn near_plane(&self, coordinate: i32) -> Option<i32>
         ensures value { let v = fine_coordinate self.now coordinate in SomeIff result (IsPlaneCoordinate v) v }
         ensures test { is_some result ≡ is_within plane_limit (fine_coordinate self.now coordinate) }
     {
+        if self.axis.has_same_extents() {
+            return self.unscaled_plane(coordinate);
+        }
         let product = self.product(coordinate);
         if product.unsigned_abs() >= FAR {
             return self.far_plane(coordinate);
@@ -66,6 +71,35 @@ impl FineAxis {
             return self.wide_plane(i64::from(coordinate));
         }
         on_plane(self.in_parts(coordinate, whole), self.shift())
+    }
+
+    /// The same if both extents are the same.
+    fn unscaled_plane(&self, coordinate: i32) -> Option<i32>
+        requires same { has_same_extents self.now.axis ≡ true }
+        ensures value { let v = fine_coordinate self.now coordinate in SomeIff result (IsPlaneCoordinate v) v }
+        ensures test { is_some result ≡ is_within plane_limit (fine_coordinate self.now coordinate) }
+    {
+        on_plane(self.unscaled(coordinate), self.shift())
+    }
+
+    /// The plane coordinate of a page coordinate that doesn't leave the plane, if both extents are the same.
+    fn unscaled_at(&self, coordinate: i32) -> i32
+        requires same { has_same_extents self.now.axis ≡ true }
+        requires there { IsPlaneCoordinate (fine_coordinate self.now coordinate) }
+        ensures { result ≡ fine_coordinate self.now coordinate }
+    {
+        plane_number(self.unscaled(coordinate), self.shift())
+    }
+
+    /// The distance of a coordinate from the window's origin in parts, if both extents are the same. Nothing is divided.
+    fn unscaled(&self, coordinate: i32) -> i64
+        requires same { has_same_extents self.now.axis ≡ true }
+        ensures { result ≡ fine_distance self.now coordinate }
+    {
+        times(
+            distance(coordinate, self.axis.window_origin),
+            i64::from(self.parts),
+        )
     }
 
     /// The distance of a coordinate from the window's origin, times the viewport's extent.
@@ -93,6 +127,9 @@ impl FineAxis {
         requires { IsPlaneCoordinate (fine_coordinate self.now coordinate) }
         ensures { result ≡ fine_coordinate self.now coordinate }
     {
+        if self.axis.has_same_extents() {
+            return self.unscaled_at(coordinate);
+        }
         let product = self.product(coordinate);
         if product.unsigned_abs() >= FAR {
             return self.far_at(coordinate);
@@ -157,7 +194,7 @@ impl FineAxis {
         ensures value { result ≡ (self.now.axis.viewport_origin -ℤ self.now.axis.corner) *ℤ pos self.now.parts }
         ensures bound { unsigned_abs result < 2 ^ 44 }
     {
-        shift_in_parts(
+        times(
             distance(self.axis.viewport_origin, self.axis.corner),
             i64::from(self.parts),
         )
@@ -197,18 +234,9 @@ fn times(number: i64, parts: i64) -> i64
     requires parts_fit { unsigned_abs parts ≤ 2 ^ 12 }
     ensures value { result ≡ number *ℤ parts }
     ensures bound { unsigned_abs result < 2 ^ 57 }
+    ensures short { unsigned_abs number < 2 ^ 32 → unsigned_abs result < 2 ^ 44 }
 {
     number * parts
-}
-
-/// A distance in parts.
-fn shift_in_parts(distance: i64, parts: i64) -> i64
-    requires distance_fits { unsigned_abs distance < 2 ^ 32 }
-    requires parts_fit { unsigned_abs parts ≤ 2 ^ 12 }
-    ensures value { result ≡ distance *ℤ parts }
-    ensures bound { unsigned_abs result < 2 ^ 44 }
-{
-    distance * parts
 }
 
 /// A distance of more than 64 bits, in parts.

@@ -9,7 +9,7 @@
 //! - A point leaves the plane, or doesn't fit a surface, exactly if a limit says so (`PageMap::plane`, `Place::fits`).
 //! - The initial maps of a placeable WMF, a plain WMF and an EMF file are those that their headers define
 //!   (`PageMap::placeable`, `plain`, `unscaled`).
-//! - A unit of the frame may have several parts of the plane: as many as the longer side of the frame allows (`Frame::parts`,
+//! - A unit of the frame may have several parts: as many as the longer side of the frame allows (`Frame::parts`,
 //!   `fine`, by `fine_parts`). Then a plane coordinate is the floor of the fraction in parts (`PageMap::in_parts`). With
 //!   one part, coordinates and nibs are those without parts (`part_law`).
 //! - A record that sets the mode, an origin or an extent, or moves an origin, changes the map by its rule, and leaves

@@ -20,7 +20,7 @@ pub struct PageMap {
     /// Whether nothing is scaled: a unit of the frame is one part, and on each axis both extents are the same. Most
     /// maps are such maps, and one test is then enough for a point.
     pub one_to_one: bool,
-    /// How many parts of the plane a unit of the frame has.
+    /// How many parts a unit of the frame has.
     pub parts: u16,
     pub x: PageAxis,
     pub y: PageAxis,

@@ -1,4 +1,4 @@
-//! How many parts of the plane a unit of the frame has, if the plane is fine.
+//! How many parts a unit of the frame has, if the plane is fine.
 
 ghost use Rattle.std.specs.Prelude.{◌≡◌, ◌*◌};
 ghost use Rattle.mapping.specs.Parts.{PartLaws, fine_parts, first_fine};
@@ -15,15 +15,15 @@ impl Frame {
     /// How many parts a unit has on the frame's fine plane: the greatest of 1, 2, 4, .., 4,096 with which the longer
     /// side has at most 2^20 parts, or 1 if there is none.
     pub fn parts(&self) -> u16
-        ensures { result ≡ fine_parts self.now }
+        ensures { result ≡ fine_parts self.now.width self.now.height }
     {
         first_fine(self.width.max(self.height), &PART_COUNTS)
     }
 
     /// The same frame, with its sides counted in these parts.
     pub fn fine(&self) -> Frame
-        ensures width { result.width ≡ self.now.width * fine_parts self.now }
-        ensures height { result.height ≡ self.now.height * fine_parts self.now }
+        ensures width { result.width ≡ self.now.width * fine_parts self.now.width self.now.height }
+        ensures height { result.height ≡ self.now.height * fine_parts self.now.width self.now.height }
     {
         part_law();
         let parts = u32::from(self.parts());

@@ -1,5 +1,5 @@
 -- A file that opens has a frame and a handle count within their limits.
-use Rattle.std.proofs.Common.{◌≡◌, ℕ, zero, suc, ℤ, pos, negsuc, ◌-◌, ◌-ℤ◌, ◌≤◌, Bool, true, false, ◌&&◌, ◌||◌, ◌==◌, not, cond, List, [], ◌∷◌, drop, length, Option, Some, None, Result, Ok, Err, ap, refl, subst, sym, ◌∙◌, arith}
+use Rattle.std.proofs.Common.{◌≡◌, ◌⊎◌, ℕ, zero, suc, ℤ, pos, negsuc, ◌-◌, ◌-ℤ◌, ◌≤◌, Bool, true, false, ◌&&◌, ◌||◌, ◌==◌, not, cond, List, [], ◌∷◌, drop, length, Option, Some, None, Result, Ok, Err, ap, inl, refl, subst, sym, ◌∙◌, arith}
 use Rattle.std.specs.Prelude.{◌*◌, ◌^◌, ◌<◌, IfSome, if◌then◌else◌, max, nat_lt, slice_index, unsigned_abs}
 use Rattle.std.specs.List.{All}
 use Rattle.std.proofs.lemmas.List.Elements.{All-head, All-tail}
@@ -8,13 +8,13 @@ use Rattle.std.proofs.lemmas.Bool.{and_parts, ltb-false, ltb-true}
 use Rattle.std.proofs.lemmas.Int.{ints}
 use Rattle.mapping.specs.Limits.{IsFrameSide, frame_side_true, is_frame_side}
 use Rattle.mapping.specs.PageMap.{map_in_parts}
-use Rattle.mapping.specs.Parts.{PartLaws, first_fine, part_counts}
+use Rattle.mapping.specs.Parts.{PartLaws, fine_parts, first_fine, part_counts}
 use Rattle.mapping.specs.PlacingLaws.{ShowsFrame}
 use Rattle.mapping.specs.Plane.{MapNumbers}
 use Rattle.mapping.specs.declared.geometry.Frame.{Frame}
 use Rattle.draw_ops.specs.Framed.{framed_of}
 use Rattle.draw_ops.specs.Results.{result_map}
-use Rattle.draw_ops.specs.RuleSets.{core_rules, has_fine_plane, in_force}
+use Rattle.draw_ops.specs.RuleSets.{core_rules, in_force, is_print}
 use Rattle.draw_ops.specs.Records.{Record}
 use Rattle.draw_ops.specs.declared.fault.Fault.{Fault}
 use Rattle.draw_ops.specs.declared.rules.Rules.{Rules}
@@ -206,6 +206,9 @@ by_them : (rules : Rules) (result : Result OpenedValue Fault) (holds : OpenedVal
 by_them rules (Ok it) holds is f = is_it holds (reopened rules it) (f it (is it refl))
 by_them rules (Err fault) holds is f = no_fault holds fault
 
+abbrev HasFewParts : OpenedValue → Type 0
+HasFewParts o = (o.map.x.parts ≡ 1) ⊎ (o.map.x.parts * max o.frame_width o.frame_height ≤ 2 ^ 20)
+
 module _ (laws : PartLaws) where
   abbrev framed : (width height : ℕ) → IsFrameSide width → IsFrameSide height → Frame
   framed width height wide high = record { width = width; height = height; wide = wide; high = high }
@@ -219,9 +222,19 @@ module _ (laws : PartLaws) where
   shows rules width height it is =
       let frame = framed it.frame_width it.frame_height is.wide is.high in
       record {
-        wide = fine_side (has_fine_plane rules) it.frame_width (max it.frame_width it.frame_height) is.wide (laws.wide frame);
-        high = fine_side (has_fine_plane rules) it.frame_height (max it.frame_width it.frame_height) is.high (laws.high frame);
+        wide = fine_side (is_print rules) it.frame_width (max it.frame_width it.frame_height) is.wide (laws.wide frame);
+        high = fine_side (is_print rules) it.frame_height (max it.frame_width it.frame_height) is.high (laws.high frame);
       }
+
+  -- a unit has one part, or the longer side has at most 2^20
+  few_parts : (print : Bool) (width height : ℕ) → (fine_parts width height ≡ 1) ⊎ (fine_parts width height * max width height ≤ 2 ^ 20)
+      → ((if print then fine_parts width height else 1) ≡ 1) ⊎ ((if print then fine_parts width height else 1) * max width height ≤ 2 ^ 20)
+  few_parts true width height few = few
+  few_parts false width height few = inl refl
+
+  in_few_parts : (rules : Rules) (it : OpenedValue) → HasDimensions it → HasFewParts (reopened rules it)
+  in_few_parts rules it is =
+      few_parts (is_print rules) it.frame_width it.frame_height (laws.short (framed it.frame_width it.frame_height is.wide is.high))
 
 -- by the core profile, a file opens as it does without rules
 abbrev sides_of : OpenedValue → ℕ → ℕ → MapNumbers → Rules → OpenedValue
@@ -237,7 +250,7 @@ sides_of o width height map rules = record {
   notes = o.notes;
 }
 
-same_core : (rules : Rules) → has_fine_plane rules ≡ false → (o : OpenedValue) → HasDimensions o → reopened rules o ≡ o
+same_core : (rules : Rules) → is_print rules ≡ false → (o : OpenedValue) → HasDimensions o → reopened rules o ≡ o
 same_core rules plain o is =
     let wide : o.frame_width * 1 ≡ o.fine_width = let e = is.fine_width in omega (arith, e) in
     let high : o.frame_height * 1 ≡ o.fine_height = let e = is.fine_height in omega (arith, e) in
@@ -250,12 +263,12 @@ same_core rules plain o is =
     ∙ ap (λ (m : MapNumbers). sides_of o o.fine_width o.fine_height m core_rules) is.units
     ∙ ap (λ (r : Rules). sides_of o o.fine_width o.fine_height o.map r) (sym is.core)
 
-core_result : (rules : Rules) → has_fine_plane rules ≡ false → (result : Result OpenedValue Fault) → HoldsIfOk HasDimensions result → result_map (reopened rules) result ≡ result
+core_result : (rules : Rules) → is_print rules ≡ false → (result : Result OpenedValue Fault) → HoldsIfOk HasDimensions result → result_map (reopened rules) result ≡ result
 core_result rules plain (Ok o) is = ap (λ (it : OpenedValue). Ok it) (same_core rules plain o (is o refl))
 core_result rules plain (Err fault) is = refl
 
 -- the rules in force are in force, and a unit has as many parts under them
-reopened_again : (rules : Rules) (fine : Bool) → has_fine_plane rules ≡ fine → (o : OpenedValue) → reopened (in_force rules) o ≡ reopened rules o
+reopened_again : (rules : Rules) (fine : Bool) → is_print rules ≡ fine → (o : OpenedValue) → reopened (in_force rules) o ≡ reopened rules o
 reopened_again rules true e o = let force : in_force rules ≡ rules = rw e refl in ap (λ (r : Rules). reopened r o) force
 reopened_again rules false e o =
     let parts : parts_of_unit rules o.frame_width o.frame_height ≡ 1 = rw e refl in
@@ -263,7 +276,7 @@ reopened_again rules false e o =
     ap (λ (r : Rules). reopened r o) force ∙ sym (ap (λ (n : ℕ). divided (in_force rules) n o) parts ∙ ap (λ (r : Rules). divided r 1 o) force)
 
 again_result : (rules : Rules) (result : Result OpenedValue Fault) → result_map (reopened (in_force rules)) result ≡ result_map (reopened rules) result
-again_result rules (Ok o) = ap (λ (it : OpenedValue). Ok it) (reopened_again rules (has_fine_plane rules) refl o)
+again_result rules (Ok o) = ap (λ (it : OpenedValue). Ok it) (reopened_again rules (is_print rules) refl o)
 again_result rules (Err fault) = refl
 
 rules_result : (rules : Rules) (result : Result OpenedValue Fault) → HoldsIfOk (λ o. o.rules ≡ in_force rules) (result_map (reopened rules) result)
@@ -280,6 +293,7 @@ opening_laws laws = record {
   handles = λ rules file o all opens. handles_by rules (opened file) (handles file all) o opens;
   frame = λ rules file o width height opens.
       by_them rules (opened file) (λ it. ShowsFrame (surface_for it width height)) (frame file) (shows laws rules width height) o opens;
+  parts = λ rules file o opens. by_them rules (opened file) HasFewParts (frame file) (in_few_parts laws rules) o opens;
   core = λ rules file plain. core_result rules plain (opened file) (frame file);
   again = λ rules file. again_result rules (opened file);
   in_force = λ rules file o opens. rules_result rules (opened file) o opens;

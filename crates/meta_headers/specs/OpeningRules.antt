@@ -1,9 +1,9 @@
--- Opening a file under rules: how many parts of the plane a unit of the frame has.
-use Rattle.std.specs.Prelude.{ℕ, ◌*◌, max, if◌then◌else◌, List, Result}
+-- Opening a file under rules: how many parts a unit of the frame has.
+use Rattle.std.specs.Prelude.{ℕ, ◌*◌, if◌then◌else◌, List, Result}
 use Rattle.mapping.specs.PageMap.{map_in_parts}
-use Rattle.mapping.specs.Parts.{first_fine, part_counts}
+use Rattle.mapping.specs.Parts.{fine_parts}
 use Rattle.draw_ops.specs.Results.{result_map}
-use Rattle.draw_ops.specs.RuleSets.{has_fine_plane, in_force}
+use Rattle.draw_ops.specs.RuleSets.{in_force, is_print}
 use Rattle.draw_ops.specs.declared.fault.Fault.{Fault}
 use Rattle.draw_ops.specs.declared.rules.Rules.{Rules}
 use Rattle.meta_headers.specs.Headers.{OpenedValue}
@@ -11,7 +11,7 @@ use Rattle.meta_headers.specs.Opening.{opened}
 
 -- how many parts a unit has, in a frame of this size: on a fine plane as many as the longer side allows, otherwise 1
 abbrev pub parts_of_unit : Rules → ℕ → ℕ → ℕ
-parts_of_unit rules width height = if has_fine_plane rules then first_fine (max width height) part_counts else 1
+parts_of_unit rules width height = if is_print rules then fine_parts width height else 1
 
 -- an opened file under these rules, with this many parts to a unit
 abbrev pub divided : Rules → ℕ → OpenedValue → OpenedValue

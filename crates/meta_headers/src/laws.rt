@@ -14,7 +14,8 @@ pub fn file_law()
 }
 
 /// A file that opens has a frame with a width and height from 1 to 2^28, under any rules, and a handle count of 16 bits,
-/// if it has one. Under the core rules it opens as `open_file` opens it.
+/// if it has one. A unit has one part, or the longer side has at most 2^20. Under the core rules a file opens as
+/// `open_file` opens it.
 pub fn opening_law()
     ensures { OpeningLaws }
 {

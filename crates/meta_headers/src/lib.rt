@@ -8,8 +8,8 @@
 //!   these rules define (`open_file_by`, `Opened::by`, by `opened_by`). Under the core profile a unit is one part, and the
 //!   file opens as without rules (`opening_law`).
 //! - An opened file's source has what its records mean, from record 0 on (`Opened::source`, by `HasContentOf`).
-//! - A file opens in only one way, and its records have only one content (`file_law`). The size of its frame and its
-//!   handle count are within their limits (`opening_law`).
+//! - A file opens in only one way, and its records have only one content (`file_law`). The size of its frame, the parts of
+//!   a unit and its handle count are within their limits (`opening_law`).
 //! - A file's format is determined by its first bytes, and each format has a name (`FileFormat::of`,
 //!   `FileFormat::name`).
 //! - No call gets an allocator: the records are a part of the file.

@@ -29,7 +29,7 @@ pub struct Opened<'a> {
     pub rules: Rules,
     /// What a surface shows. Its sides count units: pixels of the device, or units of a placeable file's box.
     pub frame: Frame,
-    /// The same frame, with its sides counted in parts of the plane. Under the core profile a unit is one part.
+    /// The same frame, with its sides counted in parts of a unit. Under the core profile a unit has one part.
     pub fine_frame: Frame,
     /// The page map before the first record.
     pub start_map: PageMap,
@@ -64,7 +64,7 @@ impl<'a> Opened<'a> {
         }
     }
 
-    /// How many parts of the plane a unit of the frame has.
+    /// How many parts a unit of the frame has.
     pub fn parts(&self) -> u16
         ensures { result ≡ self.now.start_map.parts }
     {
@@ -84,18 +84,14 @@ impl<'a> Opened<'a> {
     }
 }
 
-/// How many parts of the plane a unit of the frame has under these rules.
+/// How many parts a unit of the frame has under these rules.
 fn parts_of_unit(rules: Rules, frame: &Frame) -> u16
     ensures value { result ≡ parts_of_unit rules frame.now.width frame.now.height }
     ensures some { 1 ≤ result }
     ensures few { result ≤ 4096 }
 {
     part_law();
-    if rules.has_fine_plane() {
-        frame.parts()
-    } else {
-        1
-    }
+    if rules.is_print() { frame.parts() } else { 1 }
 }
 
 /// The frame, with its sides counted in parts under these rules.
@@ -103,7 +99,7 @@ fn frame_by(rules: Rules, frame: &Frame) -> Frame
     ensures width { result.width ≡ frame.now.width * parts_of_unit rules frame.now.width frame.now.height }
     ensures height { result.height ≡ frame.now.height * parts_of_unit rules frame.now.width frame.now.height }
 {
-    if rules.has_fine_plane() {
+    if rules.is_print() {
         frame.fine()
     } else {
         *frame

@@ -1,13 +1,12 @@
 -- Answers in the form that C has.
-use Rattle.std.specs.Prelude.{◌≡◌, ℕ, false, List, Option, Some, None, is_some, nat_lt, if◌then◌else◌, Result, Ok, Err}
+use Rattle.std.specs.Prelude.{◌≡◌, ℕ, false, List, Option, Some, None, is_some, Result, Ok, Err}
 use Rattle.proportions.specs.declared.fitting.Sides.{Sides}
 use Rattle.draw_ops.specs.Fault.{record_kind_of}
 use Rattle.draw_ops.specs.FaultTable.{fault_row}
 use Rattle.draw_ops.specs.declared.fault.Fault.{Fault}
 use Rattle.draw_ops.specs.declared.fault.Fault.TheVariants.{BadBound}
-use Rattle.draw_ops.specs.declared.rules.Profile.TheVariants.{Print}
-use Rattle.draw_ops.specs.declared.rules.Rules.{Rules}
-use Rattle.preflight_cert.specs.CertificateReading.{allowed_by}
+use Rattle.draw_ops.specs.RuleSets.{print_rules}
+use Rattle.draw_ops.specs.declared.rules.Allowances.{Allowances}
 use Rattle.preflight_cert.specs.declared.refusal.Refusal.{Refusal}
 use Rattle.buffer_calls.specs.FaultNames.{EndsName}
 use Rattle.buffer_calls.specs.Prepares.{EndsPrepare}
@@ -65,13 +64,10 @@ pub record Reports (ends : Outcome → Type 0) (answer : Answer) : Type 0 where
   pub fact : ends outcome
   pub same : answer ≡ answer_of outcome
 
--- the print profile with what a number allows, as in a certificate: 1 for held deletions, 2 for EMF+ alone, 3 for both
-abbrev pub print_rules : ℕ → Option Rules
-print_rules allowed = if nat_lt allowed 4 then Some (record { profile = Print; allowed = allowed_by allowed }) else None
-
--- The answer is that for preparing a certificate under rules; without rules it is a rejection, and the buffer is unchanged.
-abbrev pub ReportsPrepared : Option Rules → List ℕ → ℕ → ℕ → List ℕ → List ℕ → Answer → Type 0
-ReportsPrepared (Some rules) file width height old new answer = Reports (EndsPrepare rules file width height old new) answer
+-- The answer is that for preparing a certificate under the print profile with some of this allowed; if it isn't known what
+-- is allowed, it is a rejection, and the buffer is unchanged.
+abbrev pub ReportsPrepared : Option Allowances → List ℕ → ℕ → ℕ → List ℕ → List ℕ → Answer → Type 0
+ReportsPrepared (Some allowed) file width height old new answer = Reports (EndsPrepare (print_rules allowed) file width height old new) answer
 ReportsPrepared None file width height old new answer = (answer ≡ rejected_answer record { number = None; fault = BadBound }) × (new ≡ old)
 
 -- The answer is that for copying the name of the fault with this code, if there is one, to a buffer.

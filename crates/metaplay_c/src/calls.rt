@@ -1,26 +1,23 @@
 //! The functions that C calls.
 
 ghost use Rattle.std.specs.Prelude.{◌≡◌};
-ghost use Rattle.draw_ops.specs.RuleSets.{core_rules};
+ghost use Rattle.draw_ops.specs.RuleSets.{allowances_of, core_rules};
 ghost use Rattle.buffer_calls.specs.CertifiedTerms.{terms_result};
 ghost use Rattle.buffer_calls.specs.Checks.{EndsCheck};
 ghost use Rattle.buffer_calls.specs.Fitted.{fitted_result};
 ghost use Rattle.buffer_calls.specs.Plays.{EndsPlay};
 ghost use Rattle.buffer_calls.specs.Prepares.{EndsPrepare};
-ghost use Rattle.metaplay_c.specs.Answers.{Reports, ReportsName, ReportsPrepared, ReportsSides, ReportsTerms, print_rules};
+ghost use Rattle.metaplay_c.specs.Answers.{Reports, ReportsName, ReportsPrepared, ReportsSides, ReportsTerms};
 
 use crate::answers::{
     Answer, CertificateTerms, DONE, SurfaceSides, answer_of, name_answer, plain_answer,
     rejected_answer,
 };
 use buffer_calls::{check_bytes, copy_fault_name, fitted_for, play_into, prepare_into, terms_of};
-use draw_ops::{Allowances, Fault, Profile, Rules};
+use draw_ops::{Allowances, Fault, Rules};
 use preflight_cert::Refusal;
 use proportions::Sides;
 use std::alloc::Global;
-
-/// The greatest number of what is allowed.
-const MOST_ALLOWED: u32 = 3;
 
 /// Checks a certificate against a file.
 #[unsafe(no_mangle)]
@@ -55,29 +52,13 @@ pub extern "C" fn metaplay_prepare_print(
     height: u32,
     out: &mut [u8],
 ) -> Answer
-    ensures { ReportsPrepared (print_rules allowed) file.now width height out.old out.new result }
+    ensures { ReportsPrepared (allowances_of allowed) file.now width height out.old out.new result }
 {
-    let Some(rules) = print_rules(allowed) else {
+    let Some(allowed) = Allowances::from_bits(allowed) else {
         return rejected_answer(Refusal::of_file(Fault::BadBound));
     };
     let sides = Sides { width, height };
-    answer_of(prepare_into(alloc, rules, file, sides, out))
-}
-
-/// The print profile with what a number allows. `None` if it allows something unknown.
-fn print_rules(allowed: u32) -> Option<Rules>
-    ensures { result ≡ print_rules allowed }
-{
-    if allowed > MOST_ALLOWED {
-        return None;
-    }
-    Some(Rules {
-        profile: Profile::Print,
-        allowed: Allowances {
-            held_deletion: allowed % 2 == 1,
-            emf_plus: allowed >= 2,
-        },
-    })
+    answer_of(prepare_into(alloc, Rules::print(allowed), file, sides, out))
 }
 
 /// Checks a certificate against a file, and plays the file into a buffer of samples.

@@ -3,27 +3,28 @@ use Rattle.std.proofs.Common.{◌≡◌, Bool, true, false, ◌&&◌, cond, Opti
 use Rattle.std.specs.List.{All, flat_map}
 use Rattle.std.specs.Prelude.{◌==◌, codes, nat_le, nat_lt, not}
 use Rattle.std.proofs.Math.Nat.{mul-suc, mul-zero}
-use Rattle.std.proofs.lemmas.Bool.{and_parts, eqb-true, leb-true, ltb-false, true≢false}
+use Rattle.std.proofs.lemmas.Bool.{and_parts, eqb-true, leb-true, ltb-false, ltb-true, true≢false}
 use Rattle.std.proofs.lemmas.List.{drop-drop, length-drop}
 use Rattle.std.proofs.lemmas.List.Elements.{All-cons, All-drop, All-nil}
 use Rattle.mapping.specs.Limits.{is_surface_side}
 use Rattle.mapping.specs.Nibs.{is_nib, nib_true}
 use Rattle.mapping.proofs.LimitLemmas.{tests_are_limits}
-use Rattle.draw_ops.specs.RuleSets.{has_fine_plane}
+use Rattle.draw_ops.specs.RuleSets.{allowance_bits, allowances_in, allowances_of, is_print}
+use Rattle.draw_ops.specs.declared.rules.Allowances.{Allowances}
 use Rattle.draw_ops.specs.declared.fault.Fault.{Fault}
 use Rattle.draw_ops.specs.declared.fault.Fault.TheVariants.{BadBound, NotCertificate, ShortCertificate, TrailingBytes}
 use Rattle.point_views.specs.Numbers.{number_at}
 use Rattle.dc_stack.specs.Drawing.{edge_limit}
 use Rattle.dc_stack.specs.Path.{piece_limit}
-use Rattle.preflight_cert.specs.CertificateReading.{CertificateValue, allowed_by, are_bounded_needs, count_in, entries_in, entry_limit, entry_size, first_entry, have_nibs, is_bounded, is_by_print, mark_of, needs_in, nib_in, print_mark, read_certificate, read_print, read_version, read_whole, rules_in, value_in, version_of, whole_size}
-use Rattle.preflight_cert.specs.CertificateText.{allowed_number, certificate_text, entry_text, head_of, mark_text, nib_text, number_text, numbers_with}
-use Rattle.preflight_cert.specs.TextLaws.{AreBytes, HasNibOf, IsCertificate, IsEntry}
+use Rattle.preflight_cert.specs.CertificateReading.{CertificateValue, are_bounded_needs, count_in, entries_in, entry_limit, entry_size, first_entry, have_nibs, is_bounded, is_by_print, signature_of, needs_in, nib_in, print_signature, read_allowed, read_certificate, read_print, read_version, read_whole, rules_in, value_in, version_of, whole_size}
+use Rattle.preflight_cert.specs.CertificateText.{certificate_text, entry_text, head_of, version_signature, nib_text, number_text, numbers_with}
+use Rattle.preflight_cert.specs.TextLaws.{AreBytes, HasNibOf, IsCertificate, IsCertificateUnder, IsEntry}
 use Rattle.preflight_cert.specs.declared.version.Version.{Version}
 use Rattle.preflight_cert.specs.declared.version.Version.TheVariants.{Mpc1, Mpc2}
 use Rattle.preflight_cert.proofs.CertificateTextLemmas.{core_text, numbers_of}
 use Rattle.preflight_cert.proofs.EntryLemmas.{entry_least, length-entries_in}
 use Rattle.preflight_cert.proofs.NumberTextLemmas.{long_again, long_small, number_again, number_small, short_again, signed_fits, signed_number_again}
-use Rattle.preflight_cert.proofs.TextPartLemmas.{number_is_mark}
+use Rattle.preflight_cert.proofs.TextPartLemmas.{number_is_signature}
 
 -- bytes of a nib
 nib_again : (version : Version) (bytes rest : List ℕ) → AreBytes bytes → entry_size version ≤ length bytes → rest ≡ drop (entry_size version) bytes
@@ -120,21 +121,21 @@ between : (a b : ℕ) → nat_lt a b ≡ false → nat_lt b a ≡ false → a �
 between a b e f = let g = ltb-false a b e in let h = ltb-false b a f in omega (arith, g, h)
 
 -- the mark of the version that is found
-marked_by : (n : ℕ) (first second : Bool) (version : Version) → (first ≡ true → n ≡ mark_of Mpc1) → (second ≡ true → n ≡ mark_of Mpc2)
-    → cond first (Some Mpc1) (cond second (Some Mpc2) None) ≡ Some version → n ≡ mark_of version
+marked_by : (n : ℕ) (first second : Bool) (version : Version) → (first ≡ true → n ≡ signature_of Mpc1) → (second ≡ true → n ≡ signature_of Mpc2)
+    → cond first (Some Mpc1) (cond second (Some Mpc2) None) ≡ Some version → n ≡ signature_of version
 marked_by n true second Mpc1 f g e = f refl
 marked_by n true second Mpc2 f g e = cc
 marked_by n false true Mpc1 f g e = cc
 marked_by n false true Mpc2 f g e = g refl
 marked_by n false false version f g e = cc
 
-is_marked : (n : ℕ) (version : Version) → version_of n ≡ Some version → n ≡ mark_of version
-is_marked n version e = marked_by n (n == mark_of Mpc1) (n == mark_of Mpc2) version (eqb-true n (mark_of Mpc1)) (eqb-true n (mark_of Mpc2)) e
+is_marked : (n : ℕ) (version : Version) → version_of n ≡ Some version → n ≡ signature_of version
+is_marked n version e = marked_by n (n == signature_of Mpc1) (n == signature_of Mpc2) version (eqb-true n (signature_of Mpc1)) (eqb-true n (signature_of Mpc2)) e
 
-marked_prefix : (version : Version) (bytes rest : List ℕ) → number_at bytes 0 4 ≡ mark_of version → number_text (number_at bytes 0 4) ++ rest ≡ bytes
-    → mark_text version ++ rest ≡ bytes
+marked_prefix : (version : Version) (bytes rest : List ℕ) → number_at bytes 0 4 ≡ signature_of version → number_text (number_at bytes 0 4) ++ rest ≡ bytes
+    → version_signature version ++ rest ≡ bytes
 marked_prefix version bytes rest marked e =
-    ap (λ (text : List ℕ). text ++ rest) (sym (number_is_mark version)) ∙ ap (λ (n : ℕ). number_text n ++ rest) (sym marked) ∙ e
+    ap (λ (text : List ℕ). text ++ rest) (sym (number_is_signature version)) ∙ ap (λ (n : ℕ). number_text n ++ rest) (sym marked) ∙ e
 
 -- what was found of bytes that are read
 pub record IsRead (bytes : List ℕ) (found : Option Version) (c : CertificateValue) : Type 0 where
@@ -177,13 +178,13 @@ by_print false true fine rest c p e = e
 -- what was found of bytes of the print profile
 pub record IsReadUnderPrint (bytes : List ℕ) (c : CertificateValue) : Type 0 where
   pub head : 44 ≤ length bytes
-  pub allowed : number_at bytes 4 4 ≤ 3
+  pub allowed : number_at bytes 4 4 < 4
   pub read : IsRead (drop 4 bytes) (Some Mpc2) c
 
-fine_parts : (short many : Bool) (rest : Result CertificateValue Fault) (c : CertificateValue) → cond short (Err ShortCertificate) (cond many (Err BadBound) rest) ≡ Ok c → (short ≡ false) × (many ≡ false) × (rest ≡ Ok c)
-fine_parts true many rest c e = absurd (no_fault ShortCertificate c e)
-fine_parts false true rest c e = absurd (no_fault BadBound c e)
-fine_parts false false rest c e = (refl, refl, e)
+print_parts : (short few : Bool) (allowed : Allowances) (bytes : List ℕ) (c : CertificateValue) → cond short (Err ShortCertificate) (read_allowed (cond few (Some allowed) None) bytes) ≡ Ok c → (short ≡ false) × (few ≡ true) × (read_version (Some Mpc2) (drop 4 bytes) ≡ Ok c)
+print_parts true few allowed bytes c e = absurd (no_fault ShortCertificate c e)
+print_parts false true allowed bytes c e = (refl, refl, e)
+print_parts false false allowed bytes c e = absurd (no_fault BadBound c e)
 
 read_under_core : (bytes : List ℕ) (c : CertificateValue) → is_by_print bytes ≡ false → read_certificate bytes ≡ Ok c → IsRead bytes (version_of (number_at bytes 0 4)) c
 read_under_core bytes c core e = read_by (version_of (number_at bytes 0 4)) bytes c (by_core (nat_lt (length bytes) 4) (is_by_print bytes) (read_print bytes) _ c core e)
@@ -191,10 +192,10 @@ read_under_core bytes c core e = read_by (version_of (number_at bytes 0 4)) byte
 read_under_print : (bytes : List ℕ) (c : CertificateValue) → is_by_print bytes ≡ true → read_certificate bytes ≡ Ok c → IsReadUnderPrint bytes c
 read_under_print bytes c print e =
     let fine = by_print (nat_lt (length bytes) 4) (is_by_print bytes) (read_print bytes) _ c print e in
-    let parts = fine_parts (nat_lt (length bytes) 44) (nat_lt 3 (number_at bytes 4 4)) (read_version (Some Mpc2) (drop 4 bytes)) c fine in
+    let parts = print_parts (nat_lt (length bytes) 44) (nat_lt (number_at bytes 4 4) 4) (allowances_in (number_at bytes 4 4)) bytes c fine in
     record {
       head = ltb-false (length bytes) 44 parts.0;
-      allowed = ltb-false 3 (number_at bytes 4 4) parts.1;
+      allowed = ltb-true (number_at bytes 4 4) 4 parts.1;
       read = read_by (Some Mpc2) (drop 4 bytes) c parts.2;
     }
 
@@ -257,15 +258,15 @@ core_bytes bytes c all h =
     sym whole ∙ ap core_text h.value
 
 -- what is allowed, as its number
-number_allowed : (n : ℕ) → n ≤ 3 → allowed_number (allowed_by n) ≡ n
+number_allowed : (n : ℕ) → n < 4 → allowance_bits (allowances_in n) ≡ n
 number_allowed zero few = refl
 number_allowed (suc zero) few = refl
 number_allowed (suc (suc zero)) few = refl
 number_allowed (suc (suc (suc zero))) few = refl
 number_allowed (suc (suc (suc (suc n)))) few = absurd (omega (arith, few))
 
-print_prefix : (bytes : List ℕ) → number_at bytes 0 4 ≡ print_mark → number_text (number_at bytes 0 4) ++ drop 4 bytes ≡ bytes → codes "MPC3" ++ drop 4 bytes ≡ bytes
-unfolding print_mark
+print_prefix : (bytes : List ℕ) → number_at bytes 0 4 ≡ print_signature → number_text (number_at bytes 0 4) ++ drop 4 bytes ≡ bytes → codes "MPC3" ++ drop 4 bytes ≡ bytes
+unfolding print_signature
 print_prefix bytes marked e = ap (λ (n : ℕ). number_text n ++ drop 4 bytes) (sym marked) ∙ e
 
 -- the bytes of the print profile
@@ -277,7 +278,7 @@ print_bytes bytes c all print h =
     let behind : numbers_of c ≡ drop 8 bytes = ap numbers_of (sym h.read.value) ∙ numbers ∙ drop-drop 4 4 bytes in
     let again = number_again 4 bytes all _ (omega (arith, head)) behind in
     sym (ap (λ (rest : List ℕ). codes "MPC3" ++ rest) again
-    ∙ print_prefix bytes (eqb-true (number_at bytes 0 4) print_mark print) (number_again 0 bytes all (drop 4 bytes) (omega (arith, head)) refl))
+    ∙ print_prefix bytes (eqb-true (number_at bytes 0 4) print_signature print) (number_again 0 bytes all (drop 4 bytes) (omega (arith, head)) refl))
 
 pub is_text : (bytes : List ℕ) (c : CertificateValue) → AreBytes bytes → read_certificate bytes ≡ Ok c → bytes ≡ certificate_text (rules_in bytes) c
 is_text bytes c all e = by_profile (is_by_print bytes) refl
@@ -288,8 +289,8 @@ is_text bytes c all e = by_profile (is_by_print bytes) refl
         let h = read_under_print bytes c print e in
         rw (print, number_allowed (number_at bytes 4 4) h.allowed) (print_bytes bytes c all print h)
 
-pub is_certificate : (bytes : List ℕ) (c : CertificateValue) → AreBytes bytes → read_certificate bytes ≡ Ok c → IsCertificate c
-is_certificate bytes c all e = by_profile (is_by_print bytes) refl
+within : (bytes : List ℕ) (c : CertificateValue) → AreBytes bytes → read_certificate bytes ≡ Ok c → IsCertificate c
+within bytes c all e = by_profile (is_by_print bytes) refl
   where
     by_profile : (print : Bool) → is_by_print bytes ≡ print → IsCertificate c
     by_profile false core =
@@ -302,11 +303,14 @@ is_certificate bytes c all e = by_profile (is_by_print bytes) refl
 later : (found : Option Version) (version : Version) → found ≡ Some Mpc2 → found ≡ Some version → version ≡ Mpc2
 later found version e f = cc
 
-pub has_version : (bytes : List ℕ) (c : CertificateValue) → read_certificate bytes ≡ Ok c → has_fine_plane (rules_in bytes) ≡ true → c.version ≡ Mpc2
+has_version : (bytes : List ℕ) (c : CertificateValue) → read_certificate bytes ≡ Ok c → is_print (rules_in bytes) ≡ true → c.version ≡ Mpc2
 has_version bytes c e fine = by_profile (is_by_print bytes) refl fine
   where
-    by_profile : (print : Bool) → is_by_print bytes ≡ print → has_fine_plane (rules_in bytes) ≡ true → c.version ≡ Mpc2
+    by_profile : (print : Bool) → is_by_print bytes ≡ print → is_print (rules_in bytes) ≡ true → c.version ≡ Mpc2
     by_profile false core fine = absurd (true≢false (sym fine ∙ rw core refl))
     by_profile true print fine =
         let h = (read_under_print bytes c print e).read in
         ap (λ (v : CertificateValue). v.version) (sym h.value) ∙ later (Some Mpc2) h.version refl h.marked
+
+pub is_certificate : (bytes : List ℕ) (c : CertificateValue) → AreBytes bytes → read_certificate bytes ≡ Ok c → IsCertificateUnder (rules_in bytes) c
+is_certificate bytes c all e = record { within = within bytes c all e; version = has_version bytes c e }

@@ -4,13 +4,13 @@ use Rattle.std.specs.Int.{cast_unsigned, to_le_bytes}
 use Rattle.std.specs.List.{All, flat_map}
 use Rattle.std.specs.Prelude.{◌≤◌, ◌==◌, codes, nat_le, nat_lt, if◌then◌else◌, not}
 use Rattle.std.proofs.Math.Nat.{mul-suc, mul-zero}
-use Rattle.std.proofs.lemmas.Bool.{and_from, le-leb, le-ltb}
+use Rattle.std.proofs.lemmas.Bool.{and_from, le-leb, le-ltb, lt-ltb}
 use Rattle.std.proofs.lemmas.List.Elements.{All-head, All-tail}
 use Rattle.mapping.specs.Limits.{is_surface_side}
 use Rattle.mapping.specs.Nibs.{is_nib, nib_from}
 use Rattle.mapping.specs.declared.nib.Nib.{Nib}
 use Rattle.mapping.proofs.LimitLemmas.{tests_are_limits}
-use Rattle.draw_ops.specs.RuleSets.{core_rules, has_fine_plane, is_fine}
+use Rattle.draw_ops.specs.RuleSets.{allowance_bits, allowances_in, allowances_of, core_rules, in_force, is_print, is_print_profile, print_rules}
 use Rattle.draw_ops.specs.declared.fault.Fault.{Fault}
 use Rattle.draw_ops.specs.declared.fault.Fault.TheVariants.{BadBound, NotCertificate, ShortCertificate}
 use Rattle.draw_ops.specs.declared.rules.Allowances.{Allowances}
@@ -20,15 +20,15 @@ use Rattle.draw_ops.specs.declared.rules.Rules.{Rules}
 use Rattle.point_views.specs.Numbers.{number_at}
 use Rattle.dc_stack.specs.Drawing.{edge_limit}
 use Rattle.dc_stack.specs.Path.{piece_limit}
-use Rattle.preflight_cert.specs.CertificateReading.{CertificateValue, allowed_by, are_bounded_needs, count_in, entries_in, entry_limit, entry_size, first_entry, have_nibs, is_bounded, is_by_print, mark_of, needs_in, nib_in, print_mark, read_certificate, read_print, read_version, read_whole, rules_in, value_in, version_of, whole_size, with_nibs}
-use Rattle.preflight_cert.specs.CertificateText.{allowed_number, certificate_text, entry_text, mark_text, needs_text, nib_text, number_text}
-use Rattle.preflight_cert.specs.TextLaws.{HasNibOf, IsCertificate, IsEntry}
+use Rattle.preflight_cert.specs.CertificateReading.{CertificateValue, are_bounded_needs, count_in, entries_in, entry_limit, entry_size, first_entry, have_nibs, is_bounded, is_by_print, signature_of, needs_in, nib_in, print_signature, read_certificate, read_print, read_version, read_whole, rules_in, value_in, version_of, whole_size, with_nibs}
+use Rattle.preflight_cert.specs.CertificateText.{certificate_text, entry_text, version_signature, needs_text, nib_text, number_text}
+use Rattle.preflight_cert.specs.TextLaws.{HasNibOf, IsCertificate, IsCertificateUnder, IsEntry}
 use Rattle.preflight_cert.specs.declared.certificate_entry.Entry.{Entry}
 use Rattle.preflight_cert.specs.declared.version.Version.{Version}
 use Rattle.preflight_cert.specs.declared.version.Version.TheVariants.{Mpc1, Mpc2}
 use Rattle.preflight_cert.proofs.EntryLemmas.{ends_with_entries}
 use Rattle.preflight_cert.proofs.NumberTextLemmas.{number_back, short_back, signed_back}
-use Rattle.preflight_cert.proofs.TextPartLemmas.{number_is_mark}
+use Rattle.preflight_cert.proofs.TextPartLemmas.{number_is_signature}
 
 abbrev a_nib : ℕ → ℕ → Nib
 a_nib x y = record { x = x; y = y }
@@ -117,31 +117,31 @@ abbrev numbered_text : ℕ → CertificateValue → List ℕ
 numbered_text n c = number_text n ++ numbers_of c
 
 abbrev marked_text : CertificateValue → List ℕ
-marked_text c = numbered_text (mark_of c.version) c
+marked_text c = numbered_text (signature_of c.version) c
 
 -- the bytes of a certificate of the core profile
 abbrev pub core_text : CertificateValue → List ℕ
-core_text c = mark_text c.version ++ numbers_of c
+core_text c = version_signature c.version ++ numbers_of c
 
 marked_is_text : (c : CertificateValue) → marked_text c ≡ core_text c
-marked_is_text c = ap (λ (mark : List ℕ). mark ++ numbers_of c) (number_is_mark c.version)
+marked_is_text c = ap (λ (mark : List ℕ). mark ++ numbers_of c) (number_is_signature c.version)
 
 length-numbered : (n : ℕ) (c : CertificateValue) → length (numbered_text n c) ≡ 40 + entry_size c.version * length c.entries
 length-numbered n c = let e = length-entries c.version c.entries in omega (arith, e)
 
 pub length-text : (c : CertificateValue) → length (core_text c) ≡ 40 + entry_size c.version * length c.entries
-length-text c = ap length (sym (marked_is_text c)) ∙ length-numbered (mark_of c.version) c
+length-text c = ap length (sym (marked_is_text c)) ∙ length-numbered (signature_of c.version) c
 
 -- a version is found by its mark
-found_by_mark : (version : Version) → version_of (mark_of version) ≡ Some version
-unfolding mark_of
-found_by_mark Mpc1 = refl
-found_by_mark Mpc2 = refl
+found_by_signature : (version : Version) → version_of (signature_of version) ≡ Some version
+unfolding signature_of
+found_by_signature Mpc1 = refl
+found_by_signature Mpc2 = refl
 
-mark_small : (version : Version) → mark_of version < 2 ^ 32
-unfolding mark_of
-mark_small Mpc1 = omega arith
-mark_small Mpc2 = omega arith
+signature_small : (version : Version) → signature_of version < 2 ^ 32
+unfolding signature_of
+signature_small Mpc1 = omega arith
+signature_small Mpc2 = omega arith
 
 passes : (short bounded : Bool) (rest : Result CertificateValue Fault) → short ≡ false → bounded ≡ true
     → cond short (Err ShortCertificate) (cond (not bounded) (Err BadBound) rest) ≡ rest
@@ -152,8 +152,8 @@ goes_on : (few print : Bool) (fine rest : Result CertificateValue Fault) → few
 goes_on few print fine rest a b = rw (a, b) refl
 
 -- no version has the mark of the print profile
-no_print : (version : Version) → (mark_of version == print_mark) ≡ false
-unfolding mark_of print_mark
+no_print : (version : Version) → (signature_of version == print_signature) ≡ false
+unfolding signature_of print_signature
 no_print Mpc1 = refl
 no_print Mpc2 = refl
 
@@ -222,23 +222,23 @@ module _ (n : ℕ) (c : CertificateValue) (h : IsCertificate c) where
       passes _ _ (read_whole c.version text) short bounded_back ∙ ends_with_entries c.version text is_whole ∙ ap with_nibs value_back ∙ with_nibs_back
 
 module _ (c : CertificateValue) (h : IsCertificate c) where
-  mark_back : number_at (marked_text c) 0 4 ≡ mark_of c.version
-  mark_back = let one = mark_small c.version in omega (arith, one)
+  signature_back : number_at (marked_text c) 0 4 ≡ signature_of c.version
+  signature_back = let one = signature_small c.version in omega (arith, one)
 
   marked_back : read_certificate (marked_text c) ≡ Ok c
   marked_back =
-      let len = length-numbered (mark_of c.version) c in
+      let len = length-numbered (signature_of c.version) c in
       let few : nat_lt (length (marked_text c)) 4 ≡ false = le-ltb (length (marked_text c)) 4 (omega (arith, len)) in
-      let core : is_by_print (marked_text c) ≡ false = ap (λ (n : ℕ). n == print_mark) mark_back ∙ no_print c.version in
+      let core : is_by_print (marked_text c) ≡ false = ap (λ (n : ℕ). n == print_signature) signature_back ∙ no_print c.version in
       goes_on _ _ (read_print (marked_text c)) _ few core
-      ∙ ap (λ (found : Option Version). read_version found (marked_text c)) (ap version_of mark_back ∙ found_by_mark c.version)
-      ∙ version_back (mark_of c.version) c h
+      ∙ ap (λ (found : Option Version). read_version found (marked_text c)) (ap version_of signature_back ∙ found_by_signature c.version)
+      ∙ version_back (signature_of c.version) c h
 
   core_back : read_certificate (core_text c) ≡ Ok c
   core_back = subst (λ (bytes : List ℕ). read_certificate bytes ≡ Ok c) (marked_is_text c) marked_back
 
 -- what is allowed, as a number and back
-few_allowed : (allowed : Allowances) → allowed_number allowed ≤ 3
+few_allowed : (allowed : Allowances) → allowance_bits allowed ≤ 3
 few_allowed allowed = few allowed.held_deletion allowed.emf_plus
   where
     few : (held emf : Bool) → (if held then 1 else 0) + (if emf then 2 else 0) ≤ 3
@@ -250,74 +250,78 @@ few_allowed allowed = few allowed.held_deletion allowed.emf_plus
 abbrev allowing : Bool → Bool → Allowances
 allowing held emf = record { held_deletion = held; emf_plus = emf }
 
-allowed_back : (allowed : Allowances) → allowed_by (allowed_number allowed) ≡ allowed
+allowed_back : (allowed : Allowances) → allowances_in (allowance_bits allowed) ≡ allowed
 allowed_back allowed = back allowed.held_deletion allowed.emf_plus
   where
-    back : (held emf : Bool) → allowed_by ((if held then 1 else 0) + (if emf then 2 else 0)) ≡ allowing held emf
+    back : (held emf : Bool) → allowances_in ((if held then 1 else 0) + (if emf then 2 else 0)) ≡ allowing held emf
     back true true = refl
     back true false = refl
     back false true = refl
     back false false = refl
 
+allowed_of : (allowed : Allowances) → allowances_of (allowance_bits allowed) ≡ Some allowed
+allowed_of allowed =
+    let few : nat_lt (allowance_bits allowed) 4 ≡ true = let most = few_allowed allowed in lt-ltb (allowance_bits allowed) 4 (omega (arith, most)) in
+    rw few (ap (λ (it : Allowances). Some it) (allowed_back allowed))
+
 module _ (c : CertificateValue) (h : IsCertificate c) (wide : c.version ≡ Mpc2) (allowed : Allowances) where
   abbrev fine_text : List ℕ
-  fine_text = codes "MPC3" ++ numbered_text (allowed_number allowed) c
+  fine_text = codes "MPC3" ++ numbered_text (allowance_bits allowed) c
 
   print_marked : is_by_print fine_text ≡ true
-  unfolding print_mark
+  unfolding print_signature
   print_marked = refl
 
-  allowed_here : number_at fine_text 4 4 ≡ allowed_number allowed
+  allowed_here : number_at fine_text 4 4 ≡ allowance_bits allowed
   allowed_here = let few = few_allowed allowed in omega (arith, few)
 
   fine_back : read_certificate fine_text ≡ Ok c
   fine_back =
-      let len = length-numbered (allowed_number allowed) c in
-      let few_there = few_allowed allowed in
+      let len = length-numbered (allowance_bits allowed) c in
       let few : nat_lt (length fine_text) 4 ≡ false = le-ltb (length fine_text) 4 (omega (arith, len)) in
       let short : nat_lt (length fine_text) 44 ≡ false = le-ltb (length fine_text) 44 (omega (arith, len)) in
-      let bounded : nat_lt 3 (number_at fine_text 4 4) ≡ false = rw allowed_here (le-ltb 3 (allowed_number allowed) few_there) in
-      rw (few, print_marked, short, bounded)
-      (ap (λ (version : Version). read_version (Some version) (numbered_text (allowed_number allowed) c)) (sym wide) ∙ version_back (allowed_number allowed) c h)
+      let there : allowances_of (number_at fine_text 4 4) ≡ Some allowed = ap allowances_of allowed_here ∙ allowed_of allowed in
+      rw (few, print_marked, short, there)
+      (ap (λ (version : Version). read_version (Some version) (numbered_text (allowance_bits allowed) c)) (sym wide) ∙ version_back (allowance_bits allowed) c h)
 
 -- the bytes under rules are read back
 abbrev text_where : Bool → Allowances → CertificateValue → List ℕ
-text_where fine allowed c = (if fine then codes "MPC3" ++ number_text (allowed_number allowed) else mark_text c.version) ++ numbers_of c
+text_where fine allowed c = (if fine then codes "MPC3" ++ number_text (allowance_bits allowed) else version_signature c.version) ++ numbers_of c
 
-pub reads_back : (rules : Rules) (c : CertificateValue) → IsCertificate c → (has_fine_plane rules ≡ true → c.version ≡ Mpc2) → read_certificate (certificate_text rules c) ≡ Ok c
-reads_back rules c h wide = by_profile (has_fine_plane rules) refl
+pub reads_back : (rules : Rules) (c : CertificateValue) → IsCertificateUnder rules c → read_certificate (certificate_text rules c) ≡ Ok c
+reads_back rules c is = by_profile (is_print rules) refl
   where
-    by_profile : (fine : Bool) → has_fine_plane rules ≡ fine → read_certificate (text_where fine rules.allowed c) ≡ Ok c
-    by_profile true e = fine_back c h (wide e) rules.allowed
-    by_profile false e = core_back c h
+    by_profile : (fine : Bool) → is_print rules ≡ fine → read_certificate (text_where fine rules.allowed c) ≡ Ok c
+    by_profile true e = fine_back c is.within (is.version e) rules.allowed
+    by_profile false e = core_back c is.within
 
 -- the rules under which it was made
-print_profile : (profile : Profile) → is_fine profile ≡ true → profile ≡ Print
+print_profile : (profile : Profile) → is_print_profile profile ≡ true → profile ≡ Print
 print_profile Core e = absurd (cc e)
 print_profile Print e = refl
 
 abbrev ruled : Profile → Allowances → Rules
 ruled profile allowed = record { profile = profile; allowed = allowed }
 
-marked_core : (version : Version) (rest : List ℕ) → is_by_print (mark_text version ++ rest) ≡ false
-unfolding print_mark
+marked_core : (version : Version) (rest : List ℕ) → is_by_print (version_signature version ++ rest) ≡ false
+unfolding print_signature
 marked_core Mpc1 rest = refl
 marked_core Mpc2 rest = refl
 
 marked_print : (rest : List ℕ) → is_by_print (codes "MPC3" ++ rest) ≡ true
-unfolding print_mark
+unfolding print_signature
 marked_print rest = refl
 
-allowed_in : (allowed : Allowances) (rest : List ℕ) → rules_in (codes "MPC3" ++ (number_text (allowed_number allowed) ++ rest)) ≡ ruled Print allowed
+allowed_in : (allowed : Allowances) (rest : List ℕ) → rules_in (codes "MPC3" ++ (number_text (allowance_bits allowed) ++ rest)) ≡ print_rules allowed
 allowed_in allowed rest =
     let few = few_allowed allowed in
-    let here : number_at (codes "MPC3" ++ (number_text (allowed_number allowed) ++ rest)) 4 4 ≡ allowed_number allowed = omega (arith, few) in
-    let print : is_by_print (codes "MPC3" ++ (number_text (allowed_number allowed) ++ rest)) ≡ true = marked_print (number_text (allowed_number allowed) ++ rest) in
-    rw (print, here) (ap (ruled Print) (allowed_back allowed))
+    let here : number_at (codes "MPC3" ++ (number_text (allowance_bits allowed) ++ rest)) 4 4 ≡ allowance_bits allowed = omega (arith, few) in
+    let print : is_by_print (codes "MPC3" ++ (number_text (allowance_bits allowed) ++ rest)) ≡ true = marked_print (number_text (allowance_bits allowed) ++ rest) in
+    rw (print, here) (ap print_rules (allowed_back allowed))
 
-pub rules_back : (rules : Rules) (c : CertificateValue) → has_fine_plane rules ≡ true → rules_in (certificate_text rules c) ≡ rules
-rules_back rules c fine =
-    rw fine (allowed_in rules.allowed (numbers_of c) ∙ ap (λ (profile : Profile). ruled profile rules.allowed) (sym (print_profile rules.profile fine)))
-
-pub core_rules_back : (rules : Rules) (c : CertificateValue) → has_fine_plane rules ≡ false → rules_in (certificate_text rules c) ≡ core_rules
-core_rules_back rules c core = rw (core, marked_core c.version (numbers_of c)) refl
+pub rules_back : (rules : Rules) (c : CertificateValue) → rules_in (certificate_text rules c) ≡ in_force rules
+rules_back rules c = by_profile (is_print rules) refl
+  where
+    by_profile : (fine : Bool) → is_print rules ≡ fine → rules_in (text_where fine rules.allowed c) ≡ (if fine then rules else core_rules)
+    by_profile true e = allowed_in rules.allowed (numbers_of c) ∙ ap (λ (profile : Profile). ruled profile rules.allowed) (sym (print_profile rules.profile e))
+    by_profile false e = rw (marked_core c.version (numbers_of c)) refl

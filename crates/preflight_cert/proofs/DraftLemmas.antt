@@ -6,11 +6,11 @@ use Rattle.std.proofs.lemmas.Bool.{and_parts, eqb-true}
 use Rattle.std.proofs.lemmas.List.{append_assoc, append-nil, drop-append-le, drop-drop, drop-take, drop_all, drop_at, flat_map_more, length-append, length-drop, length-take-le, take-take, take_all}
 use Rattle.std.proofs.lemmas.List.Folds.{list_all-append}
 use Rattle.mapping.specs.declared.nib.Nib.{Nib}
-use Rattle.draw_ops.specs.RuleSets.{has_fine_plane}
+use Rattle.draw_ops.specs.RuleSets.{allowance_bits, is_print}
 use Rattle.draw_ops.specs.declared.rules.Rules.{Rules}
 use Rattle.span_fill.specs.WideStrokes.{one_pixel}
-use Rattle.preflight_cert.specs.CertificateReading.{entry_size, mark_of, print_mark}
-use Rattle.preflight_cert.specs.CertificateText.{HeadValue, allowed_number, entry_text, nib_text, number_text, text_with}
+use Rattle.preflight_cert.specs.CertificateReading.{entry_size, signature_of, print_signature}
+use Rattle.preflight_cert.specs.CertificateText.{HeadValue, entry_text, nib_text, number_text, text_with}
 use Rattle.preflight_cert.specs.DraftOf.{Adds, Holds, StandIn, space_for}
 use Rattle.preflight_cert.specs.Preparation.{have_single_pixels, version_for}
 use Rattle.preflight_cert.specs.TextParts.{bound_text, head_text, totals_text}
@@ -34,7 +34,7 @@ one_is nib t =
 
 -- the version of entries, and of one more
 abbrev version_by : Rules → Bool → Version
-version_by rules single = if not (has_fine_plane rules) && single then Mpc1 else Mpc2
+version_by rules single = if not (is_print rules) && single then Mpc1 else Mpc2
 
 both : (first second : Bool) → (first && (second && true)) ≡ (first && second)
 both first true = refl
@@ -65,7 +65,7 @@ without_single false = refl
 pub wide_then : (rules : Rules) (entries : List Entry) (entry : Entry) → (entry.nib.x == 1 && entry.nib.y == 1) ≡ false
     → version_for rules (entries ++ (entry ∷ [])) ≡ Mpc2
 wide_then rules entries entry e =
-    ap (version_by rules) (singles_then entries entry false e ∙ with_false (have_single_pixels entries)) ∙ without_single (has_fine_plane rules)
+    ap (version_by rules) (singles_then entries entry false e ∙ with_false (have_single_pixels entries)) ∙ without_single (is_print rules)
 
 -- a draft of the first version is one of the core profile, and each of its nibs is one pixel
 pub first_is_core : (fine single : Bool) → (if not fine && single then Mpc1 else Mpc2) ≡ Mpc1 → (fine ≡ false) × (single ≡ true)
@@ -220,7 +220,7 @@ short_text space Mpc1 bytes entries small h few = let size = sized space Mpc1 by
 short_text space Mpc2 bytes entries small h few = let size = sized space Mpc2 bytes entries h in omega (arith, small, size, few)
 
 pub small_space : (rules : Rules) → space_for rules ≤ 44
-small_space rules = by_profile (has_fine_plane rules)
+small_space rules = by_profile (is_print rules)
   where
     by_profile : (fine : Bool) → (if fine then 44 else 40) ≤ 44
     by_profile true = omega arith
@@ -238,10 +238,10 @@ finished rules version head count bytes prefix entries h e same =
 
 -- and it takes the room that there was
 pub length-head : (rules : Rules) (version : Version) (head : HeadValue) (count : ℕ) → length (head_text rules version head count) ≡ space_for rules
-length-head rules version head count = by_profile (has_fine_plane rules)
+length-head rules version head count = by_profile (is_print rules)
   where
     by_profile : (fine : Bool)
-        → length (((if fine then number_text print_mark ++ number_text (allowed_number rules.allowed) else number_text (mark_of version)) ++ (number_text head.max_width ++ number_text head.max_height)) ++ totals_text head.writes head.needs count)
+        → length (((if fine then number_text print_signature ++ number_text (allowance_bits rules.allowed) else number_text (signature_of version)) ++ (number_text head.max_width ++ number_text head.max_height)) ++ totals_text head.writes head.needs count)
         ≡ (if fine then 44 else 40)
     by_profile true = omega arith
     by_profile false = omega arith

@@ -36,3 +36,4 @@ pub mod RowsLemmas
 pub mod RefusalLemmas
 pub mod MissedLemmas
 mod WorkedRows
+pub mod CoreLemmas

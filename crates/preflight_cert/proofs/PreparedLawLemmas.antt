@@ -11,7 +11,7 @@ use Rattle.mapping.specs.Surface.{Surface}
 use Rattle.draw_ops.specs.Content.{Content, StepValue}
 use Rattle.draw_ops.specs.NumberLaws.{StepsAreNumbered}
 use Rattle.draw_ops.specs.Records.{record_limit}
-use Rattle.draw_ops.specs.RuleSets.{has_fine_plane, in_force}
+use Rattle.draw_ops.specs.RuleSets.{in_force, is_print}
 use Rattle.draw_ops.specs.declared.rules.Rules.{Rules}
 use Rattle.draw_ops.specs.declared.fault.Fault.{Fault}
 use Rattle.dc_stack.specs.Drawing.{Drawing, drawing_of}
@@ -31,13 +31,13 @@ use Rattle.preflight_cert.specs.Preparation.{Prepares, PreparesIfOpened, Prepare
 use Rattle.preflight_cert.specs.PreparationLaws.{PreparationLaws}
 use Rattle.preflight_cert.specs.PreparedLaws.{AreCertificate, HasPrepared, PreparedLaws}
 use Rattle.preflight_cert.specs.Stop.{end_of, stop_of}
-use Rattle.preflight_cert.specs.TextLaws.{AreBytes, HasVersionUnder, IsCertificate, IsEntry, TextLaws}
+use Rattle.preflight_cert.specs.TextLaws.{AreBytes, IsCertificate, IsCertificateUnder, IsEntry, TextLaws}
 use Rattle.preflight_cert.specs.declared.version.Version.TheVariants.{Mpc2}
 use Rattle.preflight_cert.proofs.BudgetLimits.{of_drawings}
 use Rattle.preflight_cert.proofs.ClearedLemmas.{file_answer}
 use Rattle.preflight_cert.proofs.EntryLimits.{entries_fit}
 use Rattle.preflight_cert.proofs.PreparedLemmas.{by_version, few_entries, few_slots, is_prepared, least_certificate, version_under}
-use Rattle.preflight_cert.proofs.RulesLemmas.{in_force_twice, rules_again}
+use Rattle.preflight_cert.proofs.RulesLemmas.{in_force_twice}
 use Rattle.preflight_cert.proofs.StepCountLemmas.{few_steps}
 
 -- each step has at most one drawing, and each drawing one entry
@@ -102,7 +102,7 @@ module _ (numbers : StepsAreNumbered) (needs : NeedLaws) (content : Content) (o 
         edges = most.edges;
         pieces = most.pieces;
         few = few_entries (length made.entries) (omega (arith, size, all));
-        entries = by_version (has_fine_plane o.rules) (have_single_pixels made.entries) made.entries refl fit;
+        entries = by_version (is_print o.rules) (have_single_pixels made.entries) made.entries refl fit;
       }
 
 module _ (boxes : BoxLaws) (numbers : StepsAreNumbered) (opening : OpeningLaws) (needs : NeedLaws) (preparation : PreparationLaws) (texts : TextLaws) (answers : AnswerLaws) where
@@ -114,6 +114,9 @@ module _ (boxes : BoxLaws) (numbers : StepsAreNumbered) (opening : OpeningLaws) 
     its_limits : IsCertificate p.certificate
     its_limits = subst IsCertificate is_made (within numbers needs p.content o (record_bytes o.format file) p.of_records width height wide high (opening.handles rules file o are opens) p.unstopped)
 
+    is_under : (rules : Rules) → o.rules ≡ rules → IsCertificateUnder rules p.certificate
+    is_under rules e = record { within = its_limits; version = λ fine. p.is_prepared.version ∙ version_under o.rules p.certificate.entries (ap is_print e ∙ fine) }
+
     its_rules : o.rules ≡ in_force rules
     its_rules = opening.in_force rules file o opens
 
@@ -121,18 +124,17 @@ module _ (boxes : BoxLaws) (numbers : StepsAreNumbered) (opening : OpeningLaws) 
     is_text = p.is_text ∙ ap (λ (r : Rules). certificate_text r p.certificate) its_rules
 
     same_rules : rules_in bytes ≡ in_force rules
-    same_rules = ap rules_in is_text ∙ rules_again texts (in_force rules) p.certificate ∙ in_force_twice rules
+    same_rules = ap rules_in is_text ∙ texts.rules_back (in_force rules) p.certificate ∙ in_force_twice rules
 
     opens_again : opened_by (rules_in bytes) file ≡ Ok o
     opens_again = ap (λ (r : Rules). opened_by r file) same_rules ∙ opening.again rules file ∙ opens
 
     certificate : AreCertificate (in_force rules) bytes
-    certificate = record { value = p.certificate; within = its_limits; is_text = is_text; same_rules = same_rules }
+    certificate = record { value = p.certificate; is_certificate = is_under (in_force rules) its_rules; is_text = is_text; same_rules = same_rules }
 
     answered : IsAnswer file bytes accepted
     answered =
-        let later : HasVersionUnder o.rules p.certificate = λ fine. p.is_prepared.version ∙ version_under o.rules p.certificate.entries fine in
-        let back : read_certificate bytes ≡ Ok p.certificate = ap read_certificate p.is_text ∙ texts.reads_back o.rules p.certificate its_limits later in
+        let back : read_certificate bytes ≡ Ok p.certificate = ap read_certificate p.is_text ∙ texts.reads_back o.rules p.certificate (is_under o.rules refl) in
         let fitting = preparation.fits p.certificate o p.content width height p.is_prepared p.unstopped in
         let answer : RecordsAnswer o (record_bytes o.format file) p.certificate accepted = record { content = p.content; of_records = p.of_records; answers = (answers.fits p.content o p.certificate).1 fitting } in
         file_answer file bytes (record_bytes o.format file) o p.certificate accepted opens_again back refl answer

@@ -10,7 +10,7 @@ use Rattle.mapping.specs.BoxLaws.{BoxLaws}
 use Rattle.mapping.specs.Limits.{IsSurfaceSide}
 use Rattle.mapping.specs.Surface.{Surface}
 use Rattle.draw_ops.specs.Content.{Content, StepValue}
-use Rattle.draw_ops.specs.RuleSets.{has_fine_plane}
+use Rattle.draw_ops.specs.RuleSets.{is_print}
 use Rattle.draw_ops.specs.declared.fault.Fault.{Fault}
 use Rattle.draw_ops.specs.declared.rules.Rules.{Rules}
 use Rattle.dc_stack.specs.Drawing.{Drawing, drawing_of, drawing_points}
@@ -99,7 +99,7 @@ by_version false true entries t all = thinned entries t all
 by_version false false entries t all = all
 
 -- under the print profile it is the later one
-pub version_under : (rules : Rules) (entries : List Entry) → has_fine_plane rules ≡ true → version_for rules entries ≡ Mpc2
+pub version_under : (rules : Rules) (entries : List Entry) → is_print rules ≡ true → version_for rules entries ≡ Mpc2
 version_under rules entries fine = rw fine refl
 
 -- an index of 16 bits bounds the slots
@@ -193,7 +193,7 @@ module _ (content : Content) (o : OpenedValue) (records : List ℕ) (width heigh
           edges = edges;
           pieces = pieces;
           few = few_entries (length made.entries) (omega (arith, size, few));
-          entries = by_version (has_fine_plane o.rules) (have_single_pixels made.entries) made.entries refl fit;
+          entries = by_version (is_print o.rules) (have_single_pixels made.entries) made.entries refl fit;
         }
 
     -- so it is read as it was
@@ -201,7 +201,7 @@ module _ (content : Content) (o : OpenedValue) (records : List ℕ) (width heigh
         → totals.records ≤ 2 ^ 20 → read_certificate text ≡ Ok made
     text_back text written needs texts wide high handles fits few =
         ap read_certificate (text_is text written)
-        ∙ texts.reads_back o.rules made (is_certificate needs wide high handles fits few) (version_under o.rules made.entries)
+        ∙ texts.reads_back o.rules made (record { within = is_certificate needs wide high handles fits few; version = version_under o.rules made.entries })
 
     pub bound_back : (text : List ℕ) → read_certificate text ≡ Ok made → ForOk (read_certificate text) (HasBound width height)
     bound_back text back c read =

@@ -1,30 +1,20 @@
--- The rules that are in force, and those of a certificate's text.
+-- The rules that are in force, and those that are read.
 use Rattle.std.proofs.Common.{◌≡◌, ℕ, List, Bool, true, false, Result, Ok, refl, ap, sym, ◌∙◌}
 use Rattle.draw_ops.specs.Results.{result_map}
-use Rattle.draw_ops.specs.RuleSets.{core_rules, has_fine_plane, in_force}
+use Rattle.draw_ops.specs.RuleSets.{in_force, is_print}
 use Rattle.draw_ops.specs.declared.rules.Rules.{Rules}
 use Rattle.meta_headers.specs.Headers.{OpenedValue}
 use Rattle.meta_headers.specs.Opening.{opened}
 use Rattle.meta_headers.specs.OpeningRules.{opened_by, reopened}
-use Rattle.preflight_cert.specs.CertificateReading.{CertificateValue, is_by_print, rules_in}
-use Rattle.preflight_cert.specs.CertificateText.{certificate_text}
-use Rattle.preflight_cert.specs.TextLaws.{TextLaws}
+use Rattle.preflight_cert.specs.CertificateReading.{is_by_print, rules_in}
 
 -- the rules in force are in force
 pub in_force_twice : (rules : Rules) → in_force (in_force rules) ≡ in_force rules
-in_force_twice rules = by_profile (has_fine_plane rules) refl
+in_force_twice rules = by_profile (is_print rules) refl
   where
-    by_profile : (fine : Bool) → has_fine_plane rules ≡ fine → in_force (in_force rules) ≡ in_force rules
+    by_profile : (fine : Bool) → is_print rules ≡ fine → in_force (in_force rules) ≡ in_force rules
     by_profile true e = let force : in_force rules ≡ rules = rw e refl in ap in_force force
     by_profile false e = rw e refl
-
--- the rules of a certificate's text are those under which it was written
-pub rules_again : TextLaws → (rules : Rules) (c : CertificateValue) → rules_in (certificate_text rules c) ≡ in_force rules
-rules_again texts rules c = by_profile (has_fine_plane rules) refl
-  where
-    by_profile : (fine : Bool) → has_fine_plane rules ≡ fine → rules_in (certificate_text rules c) ≡ in_force rules
-    by_profile true e = let force : in_force rules ≡ rules = rw e refl in texts.rules_back rules c e ∙ sym force
-    by_profile false e = let force : in_force rules ≡ core_rules = rw e refl in texts.core_back rules c e ∙ sym force
 
 -- rules that are read are in force
 pub read_in_force : (bytes : List ℕ) → in_force (rules_in bytes) ≡ rules_in bytes

@@ -2,32 +2,32 @@
 use Rattle.std.proofs.Common.{◌≡◌, ℕ, Bool, true, false, if◌then◌else◌, List, [], ◌++◌, refl, ap, ◌∙◌}
 use Rattle.std.proofs.lemmas.List.{append_assoc}
 use Rattle.std.specs.Prelude.{codes}
-use Rattle.draw_ops.specs.RuleSets.{has_fine_plane}
+use Rattle.draw_ops.specs.RuleSets.{allowance_bits, is_print}
 use Rattle.draw_ops.specs.declared.rules.Rules.{Rules}
-use Rattle.preflight_cert.specs.CertificateReading.{mark_of, print_mark}
-use Rattle.preflight_cert.specs.CertificateText.{HeadValue, allowed_number, mark_text, number_text, signature_text, text_with}
+use Rattle.preflight_cert.specs.CertificateReading.{signature_of, print_signature}
+use Rattle.preflight_cert.specs.CertificateText.{HeadValue, version_signature, number_text, signature_text, text_with}
 use Rattle.preflight_cert.specs.TextParts.{bound_text, signature_numbers, totals_text}
 use Rattle.preflight_cert.specs.declared.version.Version.{Version}
 use Rattle.preflight_cert.specs.declared.version.Version.TheVariants.{Mpc1, Mpc2}
 
 -- the mark is a number in four bytes
-pub number_is_mark : (version : Version) → number_text (mark_of version) ≡ mark_text version
-unfolding mark_of
-number_is_mark Mpc1 = refl
-number_is_mark Mpc2 = refl
+pub number_is_signature : (version : Version) → number_text (signature_of version) ≡ version_signature version
+unfolding signature_of
+number_is_signature Mpc1 = refl
+number_is_signature Mpc2 = refl
 
 -- so is that of the print profile, behind which stands what is allowed
-print_is_mark : number_text print_mark ≡ codes "MPC3"
-unfolding print_mark
+print_is_mark : number_text print_signature ≡ codes "MPC3"
+unfolding print_signature
 print_is_mark = refl
 
 numbers_are_signature : (rules : Rules) (version : Version) → signature_numbers rules version ≡ signature_text rules version
-numbers_are_signature rules version = by_profile (has_fine_plane rules)
+numbers_are_signature rules version = by_profile (is_print rules)
   where
-    by_profile : (fine : Bool) → (if fine then number_text print_mark ++ number_text (allowed_number rules.allowed) else number_text (mark_of version))
-        ≡ (if fine then codes "MPC3" ++ number_text (allowed_number rules.allowed) else mark_text version)
-    by_profile true = ap (λ (mark : List ℕ). mark ++ number_text (allowed_number rules.allowed)) print_is_mark
-    by_profile false = number_is_mark version
+    by_profile : (fine : Bool) → (if fine then number_text print_signature ++ number_text (allowance_bits rules.allowed) else number_text (signature_of version))
+        ≡ (if fine then codes "MPC3" ++ number_text (allowance_bits rules.allowed) else version_signature version)
+    by_profile true = ap (λ (mark : List ℕ). mark ++ number_text (allowance_bits rules.allowed)) print_is_mark
+    by_profile false = number_is_signature version
 
 parts_are : (rules : Rules) (version : Version) (head : HeadValue) (count : ℕ) (after : List ℕ)
     → bound_text rules version head.max_width head.max_height ++ (totals_text head.writes head.needs count ++ after) ≡ text_with rules version head count after

@@ -3,13 +3,13 @@ use Rattle.std.proofs.Common.{◌≡◌, ℕ, pos, Bool, true, false, List, [], 
 use Rattle.std.specs.Prelude.{codes}
 use Rattle.mapping.specs.declared.nib.Nib.{Nib}
 use Rattle.draw_ops.specs.declared.fault.Fault.TheVariants.{BadBound, NotCertificate, ShortCertificate, TrailingBytes}
-use Rattle.draw_ops.specs.RuleSets.{core_rules}
+use Rattle.draw_ops.specs.RuleSets.{core_rules, print_rules}
 use Rattle.draw_ops.specs.declared.rules.Profile.TheVariants.{Print}
 use Rattle.draw_ops.specs.declared.rules.Rules.{Rules}
 use Rattle.dc_stack.specs.Drawing.{edge_limit}
 use Rattle.dc_stack.specs.Path.{piece_limit}
 use Rattle.span_fill.specs.WideStrokes.{one_pixel}
-use Rattle.preflight_cert.specs.CertificateReading.{CertificateValue, entry_limit, mark_of, print_mark, read_certificate, rules_in}
+use Rattle.preflight_cert.specs.CertificateReading.{CertificateValue, entry_limit, signature_of, print_signature, read_certificate, rules_in}
 use Rattle.preflight_cert.specs.CertificateText.{certificate_text}
 use Rattle.preflight_cert.specs.declared.version.Version.{Version}
 use Rattle.preflight_cert.specs.declared.version.Version.TheVariants.{Mpc1, Mpc2}
@@ -35,7 +35,7 @@ after_dimensions =
     32 ∷ 0 ∷ 0 ∷ 0 ∷ 0 ∷ 0 ∷ 0 ∷ 0 ∷ small 0 ++ small 0 ++ small 3 ++ small 0 ++ small 1
     ++ small 0 ++ small 0 ++ small 0 ++ small 4 ++ small 4
 
--- the whole, with this mark and this height
+-- the whole, with this signature and this height
 abbrev bytes_with : List ℕ → ℕ → List ℕ
 bytes_with marked height = marked ++ small 4 ++ small height ++ after_dimensions
 
@@ -47,34 +47,34 @@ triangle_text : certificate_text core_rules triangle ≡ bytes
 triangle_text = refl
 
 triangle_read : read_certificate bytes ≡ Ok triangle
-unfolding mark_of print_mark edge_limit piece_limit entry_limit
+unfolding signature_of print_signature edge_limit piece_limit entry_limit
 triangle_read = refl
 
 -- one byte less, and one more
 short_text : read_certificate (take 59 bytes) ≡ Err ShortCertificate
-unfolding mark_of print_mark edge_limit piece_limit entry_limit
+unfolding signature_of print_signature edge_limit piece_limit entry_limit
 short_text = refl
 
 short_head : read_certificate (take 39 bytes) ≡ Err ShortCertificate
-unfolding mark_of print_mark
+unfolding signature_of print_signature
 short_head = refl
 
 trailing_byte : read_certificate (bytes ++ 0 ∷ []) ≡ Err TrailingBytes
-unfolding mark_of print_mark edge_limit piece_limit entry_limit
+unfolding signature_of print_signature edge_limit piece_limit entry_limit
 trailing_byte = refl
 
--- a side of 0, the later version's mark, whose entry takes four bytes more, and another mark
+-- a side of 0, the later version's signature, whose entry takes four bytes more, and another signature
 no_height : read_certificate (bytes_with (codes "MPC1") 0) ≡ Err BadBound
-unfolding mark_of print_mark
+unfolding signature_of print_signature
 no_height = refl
 
-later_mark : read_certificate (bytes_with (codes "MPC2") 4) ≡ Err ShortCertificate
-unfolding mark_of print_mark edge_limit piece_limit entry_limit
-later_mark = refl
+later_signature : read_certificate (bytes_with (codes "MPC2") 4) ≡ Err ShortCertificate
+unfolding signature_of print_signature edge_limit piece_limit entry_limit
+later_signature = refl
 
-other_mark : read_certificate (bytes_with (codes "MPC4") 4) ≡ Err NotCertificate
-unfolding mark_of print_mark
-other_mark = refl
+other_signature : read_certificate (bytes_with (codes "MPC4") 4) ≡ Err NotCertificate
+unfolding signature_of print_signature
+other_signature = refl
 
 -- surfaces of at most 8 by 8, at most 21 pixels, one object, a drawing of 2 points, and one entry: the box of record 3, and a nib
 abbrev line_with : Version → Nib → CertificateValue
@@ -87,7 +87,7 @@ line_with version nib = record {
   entries = record { number = 3; bounds = record { l = pos 2; t = pos 4; r = pos 6; b = pos 4 }; nib = nib } ∷ [];
 }
 
--- its bytes, with this mark, and with these of a nib
+-- its bytes, with this signature, and with these of a nib
 abbrev line_bytes : List ℕ → List ℕ → List ℕ
 line_bytes marked nib =
     marked ++ small 8 ++ small 8 ++ 21 ∷ 0 ∷ 0 ∷ 0 ∷ 0 ∷ 0 ∷ 0 ∷ 0 ∷ small 0 ++ small 1 ++ small 2 ++ small 0 ++ small 1
@@ -104,17 +104,17 @@ wide_text : certificate_text core_rules wide_line ≡ wide_bytes
 wide_text = refl
 
 wide_read : read_certificate wide_bytes ≡ Ok wide_line
-unfolding mark_of print_mark edge_limit piece_limit entry_limit
+unfolding signature_of print_signature edge_limit piece_limit entry_limit
 wide_read = refl
 
 -- one without a column is refused
 no_column : read_certificate (line_bytes (codes "MPC2") (0 ∷ 0 ∷ 3 ∷ 0 ∷ [])) ≡ Err BadBound
-unfolding mark_of print_mark edge_limit piece_limit entry_limit
+unfolding signature_of print_signature edge_limit piece_limit entry_limit
 no_column = refl
 
 -- in the earlier version the line has no nib of its own
 thin_read : read_certificate (line_bytes (codes "MPC1") []) ≡ Ok (line_with Mpc1 one_pixel)
-unfolding mark_of print_mark edge_limit piece_limit entry_limit
+unfolding signature_of print_signature edge_limit piece_limit entry_limit
 thin_read = refl
 
 thin_text : certificate_text core_rules (line_with Mpc1 one_pixel) ≡ line_bytes (codes "MPC1") []
@@ -136,33 +136,33 @@ fine_triangle = record {
   entries = record { number = 0; bounds = record { l = pos 0; t = pos 0; r = pos 16384; b = pos 16384 }; nib = one_pixel } ∷ [];
 }
 
-abbrev print_rules : Bool → Bool → Rules
-print_rules held emf = record { profile = Print; allowed = record { held_deletion = held; emf_plus = emf } }
+abbrev allowing : Bool → Bool → Rules
+allowing held emf = print_rules (record { held_deletion = held; emf_plus = emf })
 
 fine_read : read_certificate (fine_bytes 0) ≡ Ok fine_triangle
-unfolding mark_of print_mark edge_limit piece_limit entry_limit
+unfolding signature_of print_signature edge_limit piece_limit entry_limit
 fine_read = refl
 
-fine_text : certificate_text (print_rules true true) fine_triangle ≡ fine_bytes 3
+fine_text : certificate_text (allowing true true) fine_triangle ≡ fine_bytes 3
 fine_text = refl
 
-all_allowed : rules_in (fine_bytes 3) ≡ print_rules true true
-unfolding print_mark
+all_allowed : rules_in (fine_bytes 3) ≡ allowing true true
+unfolding print_signature
 all_allowed = refl
 
-held_allowed : rules_in (fine_bytes 1) ≡ print_rules true false
-unfolding print_mark
+held_allowed : rules_in (fine_bytes 1) ≡ allowing true false
+unfolding print_signature
 held_allowed = refl
 
 core_rules_read : rules_in bytes ≡ core_rules
-unfolding print_mark
+unfolding print_signature
 core_rules_read = refl
 
 -- what no number allows, and a head that is cut short
 too_much_allowed : read_certificate (fine_bytes 4) ≡ Err BadBound
-unfolding mark_of print_mark
+unfolding signature_of print_signature
 too_much_allowed = refl
 
 short_fine_head : read_certificate (take 43 (fine_bytes 0)) ≡ Err ShortCertificate
-unfolding mark_of print_mark
+unfolding signature_of print_signature
 short_fine_head = refl

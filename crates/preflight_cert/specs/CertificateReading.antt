@@ -1,15 +1,14 @@
 -- The bytes of a certificate, and their meaning.
-use Rattle.std.specs.Prelude.{ℕ, zero, suc, ◌+◌, ◌*◌, ◌%◌, Bool, ◌&&◌, ◌==◌, not, nat_le, nat_lt, if◌then◌else◌, List, [], ◌∷◌, length, drop, codes, Option, Some, None, Result, Ok, Err}
+use Rattle.std.specs.Prelude.{ℕ, zero, suc, ◌+◌, ◌*◌, Bool, ◌&&◌, ◌==◌, not, nat_le, nat_lt, if◌then◌else◌, List, [], ◌∷◌, length, drop, codes, Option, Some, None, Result, Ok, Err}
 use Rattle.std.specs.List.{list_all}
 use Rattle.mapping.specs.Limits.{is_surface_side}
 use Rattle.mapping.specs.Nibs.{is_nib}
 use Rattle.mapping.specs.declared.nib.Nib.{Nib}
 use Rattle.point_views.specs.Numbers.{i32_at, number_at}
-use Rattle.draw_ops.specs.RuleSets.{core_rules}
+use Rattle.draw_ops.specs.RuleSets.{allowances_in, allowances_of, core_rules, print_rules}
 use Rattle.draw_ops.specs.declared.fault.Fault.{Fault}
 use Rattle.draw_ops.specs.declared.fault.Fault.TheVariants.{BadBound, NotCertificate, ShortCertificate, TrailingBytes}
 use Rattle.draw_ops.specs.declared.rules.Allowances.{Allowances}
-use Rattle.draw_ops.specs.declared.rules.Profile.TheVariants.{Print}
 use Rattle.draw_ops.specs.declared.rules.Rules.{Rules}
 use Rattle.dc_stack.specs.Drawing.{edge_limit}
 use Rattle.dc_stack.specs.Path.{piece_limit}
@@ -30,29 +29,27 @@ pub record CertificateValue : Type 0 where
   pub needs : Needs
   pub entries : List Entry
 
--- the first four bytes of a certificate, as a number
-unfoldable pub mark_of : Version → ℕ
-mark_of Mpc1 = number_at (codes "MPC1") 0 4
-mark_of Mpc2 = number_at (codes "MPC2") 0 4
+-- the signature of a version: the first four bytes, as a number
+unfoldable pub signature_of : Version → ℕ
+signature_of Mpc1 = number_at (codes "MPC1") 0 4
+signature_of Mpc2 = number_at (codes "MPC2") 0 4
 
--- the version that begins with a number
+-- the version with a signature
 abbrev pub version_of : ℕ → Option Version
-version_of n = if n == mark_of Mpc1 then Some Mpc1 else (if n == mark_of Mpc2 then Some Mpc2 else None)
+version_of n = if n == signature_of Mpc1 then Some Mpc1 else (if n == signature_of Mpc2 then Some Mpc2 else None)
 
--- the first four bytes of a certificate of the print profile, as a number
-unfoldable pub print_mark : ℕ
-print_mark = number_at (codes "MPC3") 0 4
+-- the signature of a certificate of the print profile, as a number
+unfoldable pub print_signature : ℕ
+print_signature = number_at (codes "MPC3") 0 4
 
+-- a certificate is of the print profile
 abbrev pub is_by_print : List ℕ → Bool
-is_by_print bytes = number_at bytes 0 4 == print_mark
+is_by_print bytes = number_at bytes 0 4 == print_signature
 
--- what a number allows: 1 held deletions, 2 EMF+ alone, 3 both
-abbrev pub allowed_by : ℕ → Allowances
-allowed_by n = record { held_deletion = n % 2 == 1; emf_plus = nat_le 2 n }
-
--- the rules under which a certificate was made; under the print profile what is allowed follows its first four bytes
+-- the rules under which a certificate was made; under the print profile what is allowed follows the
+-- signature
 abbrev pub rules_in : List ℕ → Rules
-rules_in bytes = if is_by_print bytes then record { profile = Print; allowed = allowed_by (number_at bytes 4 4) } else core_rules
+rules_in bytes = if is_by_print bytes then print_rules (allowances_in (number_at bytes 4 4)) else core_rules
 
 -- the most slots of objects in a certificate
 abbrev pub slot_limit : ℕ
@@ -154,11 +151,17 @@ read_version (Some version) bytes =
     if nat_lt (length bytes) head_size then Err ShortCertificate
     else (if not (is_bounded bytes) then Err BadBound else read_whole version bytes)
 
--- the same for a certificate of the print profile: behind what it allows it is one of the later version behind its mark
+-- the same after what is allowed under the print profile: from there on the bytes are as in the later version after its
+-- signature
+abbrev pub read_allowed : Option Allowances → List ℕ → Result CertificateValue Fault
+read_allowed None bytes = Err BadBound
+read_allowed (Some allowed) bytes = read_version (Some Mpc2) (drop 4 bytes)
+
+-- the same for a certificate of the print profile
 abbrev pub read_print : List ℕ → Result CertificateValue Fault
 read_print bytes =
     if nat_lt (length bytes) print_head_size then Err ShortCertificate
-    else (if nat_lt 3 (number_at bytes 4 4) then Err BadBound else read_version (Some Mpc2) (drop 4 bytes))
+    else read_allowed (allowances_of (number_at bytes 4 4)) bytes
 
 -- the first fault of a certificate's bytes, or their contents
 abbrev pub read_certificate : List ℕ → Result CertificateValue Fault

@@ -1,11 +1,10 @@
 -- The bytes of a certificate.
-use Rattle.std.specs.Prelude.{ℕ, ◌+◌, if◌then◌else◌, List, [], ◌++◌, length, codes}
+use Rattle.std.specs.Prelude.{ℕ, if◌then◌else◌, List, [], ◌++◌, length, codes}
 use Rattle.std.specs.Int.{w16, w32, w64, cast_unsigned, to_le_bytes}
 use Rattle.std.specs.List.{flat_map}
 use Rattle.mapping.specs.declared.geometry.Rect.{Rect}
 use Rattle.mapping.specs.declared.nib.Nib.{Nib}
-use Rattle.draw_ops.specs.RuleSets.{has_fine_plane}
-use Rattle.draw_ops.specs.declared.rules.Allowances.{Allowances}
+use Rattle.draw_ops.specs.RuleSets.{allowance_bits, is_print}
 use Rattle.draw_ops.specs.declared.rules.Rules.{Rules}
 use Rattle.dc_stack.specs.declared.needs.Needs.{Needs}
 use Rattle.preflight_cert.specs.CertificateReading.{CertificateValue}
@@ -33,9 +32,9 @@ abbrev pub entry_text : Version → Entry → List ℕ
 entry_text version entry = number_text entry.number ++ (box_text entry.bounds ++ nib_text version entry.nib)
 
 -- the signature of a version
-abbrev pub mark_text : Version → List ℕ
-mark_text Mpc1 = codes "MPC1"
-mark_text Mpc2 = codes "MPC2"
+abbrev pub version_signature : Version → List ℕ
+version_signature Mpc1 = codes "MPC1"
+version_signature Mpc2 = codes "MPC2"
 
 -- the numbers of needs, followed by other bytes
 abbrev pub needs_text : Needs → List ℕ → List ℕ
@@ -56,14 +55,10 @@ numbers_with head count entries =
     number_text head.max_width ++ (number_text head.max_height
     ++ (to_le_bytes w64 head.writes ++ needs_text head.needs (number_text count ++ entries)))
 
--- the number of what is allowed
-abbrev pub allowed_number : Allowances → ℕ
-allowed_number allowed = (if allowed.held_deletion then 1 else 0) + (if allowed.emf_plus then 2 else 0)
-
 -- what stands before those numbers: the signature, and under the print profile what is allowed
 abbrev pub signature_text : Rules → Version → List ℕ
 signature_text rules version =
-    if has_fine_plane rules then codes "MPC3" ++ number_text (allowed_number rules.allowed) else mark_text version
+    if is_print rules then codes "MPC3" ++ number_text (allowance_bits rules.allowed) else version_signature version
 
 -- the bytes of a certificate with these numbers and the bytes of its entries
 abbrev pub text_with : Rules → Version → HeadValue → ℕ → List ℕ → List ℕ

@@ -1,7 +1,7 @@
 -- A certificate that is being written, and its entries so far.
 use Rattle.std.specs.Prelude.{◌≡◌, ◌≤◌, true, ℕ, if◌then◌else◌, List, [], ◌∷◌, ◌++◌, length, drop}
 use Rattle.std.specs.List.{flat_map}
-use Rattle.draw_ops.specs.RuleSets.{has_fine_plane}
+use Rattle.draw_ops.specs.RuleSets.{is_print}
 use Rattle.draw_ops.specs.declared.rules.Rules.{Rules}
 use Rattle.preflight_cert.specs.CertificateReading.{head_size, print_head_size}
 use Rattle.preflight_cert.specs.CertificateText.{HeadValue, entry_text, text_with}
@@ -13,7 +13,7 @@ use Rattle.preflight_cert.specs.declared.version.Version.TheVariants.{Mpc1, Mpc2
 
 -- the number of bytes before the entries of a certificate under rules
 abbrev pub space_for : Rules → ℕ
-space_for rules = if has_fine_plane rules then print_head_size else head_size
+space_for rules = if is_print rules then print_head_size else head_size
 
 -- the bytes are entries, encoded for a version, after the space for a head
 pub record StandIn (space : ℕ) (version : Version) (bytes : List ℕ) (entries : List Entry) : Type 0 where

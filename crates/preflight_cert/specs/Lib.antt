@@ -41,3 +41,4 @@ pub mod StoppedRecords
 pub mod OpenedRecords
 pub mod ClearedFacts
 pub mod ObjectOrder
+pub mod CoreLaws

@@ -6,7 +6,7 @@ use Rattle.std.specs.Result.{ForOk}
 use Rattle.mapping.specs.Limits.{is_surface_side}
 use Rattle.mapping.specs.Surface.{Surface}
 use Rattle.draw_ops.specs.Content.{Content}
-use Rattle.draw_ops.specs.RuleSets.{has_fine_plane}
+use Rattle.draw_ops.specs.RuleSets.{is_print}
 use Rattle.draw_ops.specs.declared.fault.Fault.{Fault}
 use Rattle.draw_ops.specs.declared.fault.Fault.TheVariants.{BadBound}
 use Rattle.draw_ops.specs.declared.rules.Rules.{Rules}
@@ -47,7 +47,7 @@ have_single_pixels entries = list_all (λ (entry : Entry). entry.nib.x == 1 && e
 -- the version of a certificate with some entries: the first exactly if the profile is the core one and each nib is one
 -- pixel
 abbrev pub version_for : Rules → List Entry → Version
-version_for rules entries = if not (has_fine_plane rules) && have_single_pixels entries then Mpc1 else Mpc2
+version_for rules entries = if not (is_print rules) && have_single_pixels entries then Mpc1 else Mpc2
 
 -- The certificate that is prepared for a file's records at a bound: the bounding box and the nib of each drawing, the
 -- most pixels that a run writes with these, and the records' needs.

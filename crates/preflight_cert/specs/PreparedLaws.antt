@@ -7,12 +7,12 @@ use Rattle.preflight_cert.specs.Answer.{IsAnswer, Shows, accepted}
 use Rattle.preflight_cert.specs.CertificateReading.{CertificateValue, rules_in}
 use Rattle.preflight_cert.specs.CertificateText.{certificate_text}
 use Rattle.preflight_cert.specs.Preparation.{Prepares, is_bound}
-use Rattle.preflight_cert.specs.TextLaws.{AreBytes, IsCertificate}
+use Rattle.preflight_cert.specs.TextLaws.{AreBytes, IsCertificateUnder}
 
 -- bytes are the text of a certificate under these rules, all of whose numbers are within their limits
 pub record AreCertificate (rules : Rules) (bytes : List ℕ) : Type 0 where
   pub value : CertificateValue
-  pub within : IsCertificate value
+  pub is_certificate : IsCertificateUnder rules value
   pub is_text : bytes ≡ certificate_text rules value
   pub same_rules : rules_in bytes ≡ rules
 

@@ -1,11 +1,11 @@
 -- The law of a certificate's text: writing and reading are inverse to each other.
-use Rattle.std.specs.Prelude.{FitsSigned, ◌≡◌, ◌<◌, ◌≤◌, ◌^◌, ℕ, true, false, List, length, Ok}
+use Rattle.std.specs.Prelude.{FitsSigned, ◌≡◌, ◌<◌, ◌≤◌, ◌^◌, ℕ, true, List, length, Ok}
 use Rattle.std.specs.Int.{w32}
 use Rattle.std.specs.List.{All}
 use Rattle.mapping.specs.Limits.{IsSurfaceSide}
 use Rattle.mapping.specs.Nibs.{IsNib}
 use Rattle.mapping.specs.declared.nib.Nib.{Nib}
-use Rattle.draw_ops.specs.RuleSets.{core_rules, has_fine_plane}
+use Rattle.draw_ops.specs.RuleSets.{in_force, is_print}
 use Rattle.draw_ops.specs.declared.rules.Rules.{Rules}
 use Rattle.dc_stack.specs.Drawing.{edge_limit}
 use Rattle.dc_stack.specs.Path.{piece_limit}
@@ -47,20 +47,18 @@ pub record IsCertificate (c : CertificateValue) : Type 0 where
   pub few : length c.entries ≤ entry_limit
   pub entries : All (IsEntry c.version) c.entries
 
--- under the print profile a certificate has the later version
-abbrev pub HasVersionUnder : Rules → CertificateValue → Type 0
-HasVersionUnder rules c = has_fine_plane rules ≡ true → c.version ≡ Mpc2
+-- the same under rules: under the print profile each entry has a nib
+pub record IsCertificateUnder (rules : Rules) (c : CertificateValue) : Type 0 where
+  pub within : IsCertificate c
+  pub version : is_print rules ≡ true → c.version ≡ Mpc2
 
--- What is written is read back unchanged, and so are the rules: those of the print profile, or the core rules. Bytes that
--- are read are the text of what they describe, and that is a certificate.
+-- What is written is read back unchanged, and so are the rules in force. Bytes that are read are the text of what they
+-- describe, and that is a certificate.
 pub record TextLaws : Type 0 where
   pub reads_back :
-      (rules : Rules) (c : CertificateValue) → IsCertificate c → HasVersionUnder rules c → read_certificate (certificate_text rules c) ≡ Ok c
-  pub rules_back : (rules : Rules) (c : CertificateValue) → has_fine_plane rules ≡ true → rules_in (certificate_text rules c) ≡ rules
-  pub core_back : (rules : Rules) (c : CertificateValue) → has_fine_plane rules ≡ false → rules_in (certificate_text rules c) ≡ core_rules
+      (rules : Rules) (c : CertificateValue) → IsCertificateUnder rules c → read_certificate (certificate_text rules c) ≡ Ok c
+  pub rules_back : (rules : Rules) (c : CertificateValue) → rules_in (certificate_text rules c) ≡ in_force rules
   pub is_text :
       (bytes : List ℕ) (c : CertificateValue) → AreBytes bytes → read_certificate bytes ≡ Ok c → bytes ≡ certificate_text (rules_in bytes) c
   pub is_certificate :
-      (bytes : List ℕ) (c : CertificateValue) → AreBytes bytes → read_certificate bytes ≡ Ok c → IsCertificate c
-  pub has_version :
-      (bytes : List ℕ) (c : CertificateValue) → read_certificate bytes ≡ Ok c → HasVersionUnder (rules_in bytes) c
+      (bytes : List ℕ) (c : CertificateValue) → AreBytes bytes → read_certificate bytes ≡ Ok c → IsCertificateUnder (rules_in bytes) c

@@ -1,18 +1,18 @@
 -- A certificate's bytes, in the parts in which they are written.
 use Rattle.std.specs.Prelude.{ℕ, if◌then◌else◌, List, [], ◌++◌}
 use Rattle.std.specs.Int.{w64, to_le_bytes}
-use Rattle.draw_ops.specs.RuleSets.{has_fine_plane}
+use Rattle.draw_ops.specs.RuleSets.{allowance_bits, is_print}
 use Rattle.draw_ops.specs.declared.rules.Rules.{Rules}
 use Rattle.dc_stack.specs.declared.needs.Needs.{Needs}
-use Rattle.preflight_cert.specs.CertificateReading.{mark_of, print_mark}
-use Rattle.preflight_cert.specs.CertificateText.{HeadValue, allowed_number, needs_text, number_text}
+use Rattle.preflight_cert.specs.CertificateReading.{signature_of, print_signature}
+use Rattle.preflight_cert.specs.CertificateText.{HeadValue, needs_text, number_text}
 use Rattle.preflight_cert.specs.declared.version.Version.{Version}
 use Rattle.preflight_cert.specs.declared.writing.Head.{Head}
 
 -- the numbers of the signature and of what is allowed
 abbrev pub signature_numbers : Rules → Version → List ℕ
 signature_numbers rules version =
-    if has_fine_plane rules then number_text print_mark ++ number_text (allowed_number rules.allowed) else number_text (mark_of version)
+    if is_print rules then number_text print_signature ++ number_text (allowance_bits rules.allowed) else number_text (signature_of version)
 
 -- the signature and the size
 abbrev pub bound_text : Rules → Version → ℕ → ℕ → List ℕ

@@ -4,12 +4,10 @@ ghost use Rattle.std.specs.Prelude.{◌≡◌, ◌<◌, length, IfErr, IfOk, Som
 ghost use Rattle.mapping.specs.Limits.{IsSurfaceSide};
 
 use crate::certificate_entry::{Entries, Entry};
-use crate::certificate_reading::{
-    MARK_SIZE, MOST_ALLOWED, PRINT_HEAD_SIZE, PRINT_MARK, print_rules, read_version,
-};
+use crate::certificate_reading::{PRINT_HEAD_SIZE, PRINT_SIGNATURE, SIGNATURE_SIZE, read_version};
 use crate::version::Version;
 use dc_stack::Needs;
-use draw_ops::{Fault, Rules};
+use draw_ops::{Allowances, Fault, Rules};
 use point_views::u32_at;
 
 /// A certificate of a file, for surfaces of at most this size: the most pixels that playing it writes, the memory that
@@ -46,7 +44,7 @@ impl<'a> Certificate<'a> {
     /// - `ShortCertificate` if entries are missing;
     /// - `TrailingBytes` if bytes follow the entries;
     /// - `BadBound` if the width or height of a nib isn't from 1 to 4,096.
-    #[tactic(auto, unfolding(crate::specs::CertificateReading::print_mark))]
+    #[tactic(auto, unfolding(crate::specs::CertificateReading::print_signature))]
     pub fn read(bytes: &'a [u8]) -> Result<Certificate<'a>, Fault>
         ensures value { read_certificate bytes.now ≡ result_map certificate_of result }
         ensures rules { IfOk result (λ c. c.rules ≡ rules_in bytes.now) }
@@ -56,17 +54,17 @@ impl<'a> Certificate<'a> {
         if bytes.len() < 4 {
             return Err(Fault::NotCertificate);
         }
-        if u32_at(bytes, 0) == PRINT_MARK {
+        if u32_at(bytes, 0) == PRINT_SIGNATURE {
             return Certificate::read_print(bytes);
         }
-        match Version::of_mark(u32_at(bytes, 0)) {
+        match Version::of_signature(u32_at(bytes, 0)) {
             Some(version) => read_version(version, Rules::CORE, bytes),
             None => Err(Fault::NotCertificate),
         }
     }
 
     /// The same for a certificate of the print profile. Four bytes say what it allows.
-    #[tactic(auto, unfolding(crate::specs::CertificateReading::print_mark))]
+    #[tactic(auto, unfolding(crate::specs::CertificateReading::print_signature))]
     fn read_print(bytes: &'a [u8]) -> Result<Certificate<'a>, Fault>
         requires { is_by_print bytes.now ≡ true }
         ensures value { read_print bytes.now ≡ result_map certificate_of result }
@@ -77,12 +75,11 @@ impl<'a> Certificate<'a> {
         if bytes.len() < PRINT_HEAD_SIZE {
             return Err(Fault::ShortCertificate);
         }
-        let allowed = u32_at(bytes, 4);
-        if allowed > MOST_ALLOWED {
+        let Some(allowed) = Allowances::from_bits(u32_at(bytes, 4)) else {
             return Err(Fault::BadBound);
-        }
-        let (_, plain) = bytes.split_at(MARK_SIZE);
-        read_version(Version::Mpc2, print_rules(allowed), plain)
+        };
+        let (_, plain) = bytes.split_at(SIGNATURE_SIZE);
+        read_version(Version::Mpc2, Rules::print(allowed), plain)
     }
 
     /// The number of entries.

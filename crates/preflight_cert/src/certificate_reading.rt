@@ -4,37 +4,33 @@ ghost use Rattle.std.specs.Prelude.{◌≡◌, ◌<◌, ◌≤◌, ◌+◌, ◌*
 ghost use Rattle.mapping.specs.Limits.{IsSurfaceSide, is_surface_side};
 ghost use Rattle.point_views.specs.Numbers.{number_at};
 ghost use Rattle.draw_ops.specs.Fault.{IsInRecord};
-ghost use Rattle.draw_ops.specs.declared.rules.Profile.TheVariants.{Print};
 ghost use Rattle.draw_ops.specs.Results.{result_map};
 ghost use Rattle.dc_stack.specs.Drawing.{edge_limit};
 ghost use Rattle.dc_stack.specs.Path.{piece_limit};
 ghost use Rattle.preflight_cert.specs.CertificateOf.{certificate_of};
 ghost use Rattle.preflight_cert.specs.EntriesOf.{entries_of};
-ghost use Rattle.preflight_cert.specs.CertificateReading.{allowed_by, are_bounded_needs, count_in, entry_limit, entry_size, have_nibs, head_size, is_bounded, needs_in, read_version, read_whole};
+ghost use Rattle.preflight_cert.specs.CertificateReading.{are_bounded_needs, count_in, entry_limit, entry_size, have_nibs, head_size, is_bounded, needs_in, read_version, read_whole};
 
 use crate::certificate::Certificate;
 use crate::certificate_entry::Entries;
 use crate::version::Version;
 use byteorder::{ByteOrder, LittleEndian};
 use dc_stack::{MAX_PIECES, MAX_SAVED_STATES, Needs};
-use draw_ops::{Allowances, Fault, Profile, Rules};
+use draw_ops::{Fault, Rules};
 use mapping::MAX_SURFACE_SIDE;
 use point_views::u32_at;
 
 /// The number of bytes before the entries.
 pub(crate) const HEAD_SIZE: usize = 40;
 
-/// The number of bytes before what a certificate of the print profile allows: `MPC3`.
-pub(crate) const MARK_SIZE: usize = 4;
+/// The number of bytes of a signature.
+pub(crate) const SIGNATURE_SIZE: usize = 4;
 
 /// The number of bytes before the entries of a certificate of the print profile.
-pub(crate) const PRINT_HEAD_SIZE: usize = MARK_SIZE + HEAD_SIZE;
+pub(crate) const PRINT_HEAD_SIZE: usize = SIGNATURE_SIZE + HEAD_SIZE;
 
-/// The first four bytes of a certificate of the print profile, as a number.
-pub(crate) const PRINT_MARK: u32 = 0x3343_504d;
-
-/// The greatest number of what a certificate allows.
-pub(crate) const MOST_ALLOWED: u32 = 3;
+/// The signature of a certificate of the print profile, `MPC3`, as a number.
+pub(crate) const PRINT_SIGNATURE: u32 = 0x3343_504d;
 
 /// The most slots of objects in a certificate.
 const MAX_NEEDED_SLOTS: u32 = 65_535;
@@ -99,7 +95,7 @@ pub(crate) fn is_side(side: u32) -> bool
     1 <= side && side <= MAX_SURFACE_SIDE
 }
 
-/// The contents of a certificate of this version, or the first fault of the bytes after its mark.
+/// The contents of a certificate of this version, or the first fault of the bytes after its signature.
 pub(crate) fn read_version(
     version: Version,
     rules: Rules,
@@ -117,19 +113,6 @@ pub(crate) fn read_version(
         return Err(Fault::BadBound);
     }
     read_whole(version, rules, bytes)
-}
-
-/// The rules of the print profile that allow what a number says.
-pub(crate) fn print_rules(allowed: u32) -> Rules
-    ensures { result ≡ record { profile = Print; allowed = allowed_by allowed } }
-{
-    Rules {
-        profile: Profile::Print,
-        allowed: Allowances {
-            held_deletion: allowed % 2 == 1,
-            emf_plus: allowed >= 2,
-        },
-    }
 }
 
 /// The contents of a certificate, if its bytes end where the entries do and the entries' nibs are within their limits.

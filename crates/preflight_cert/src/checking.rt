@@ -43,6 +43,7 @@ pub fn check<'a>(
     ensures opened { IfOk result (λ c. IsOpenedFrom file.now c.opened) }
     ensures read { IfOk result (λ c. read_certificate certificate.now ≡ Ok (certificate_of c.certificate)) }
     ensures rules { IfOk result (λ c. c.opened.rules ≡ rules_in certificate.now) }
+    ensures certificate_rules { IfOk result (λ c. c.certificate.rules ≡ rules_in certificate.now) }
     ensures counts { IfOk result CountsItsRecords }
     ensures sound { IfOk result (IsSoundFor file.now) }
     ensures refusal { IfErr result (λ r. IsRejectedWith file.now certificate.now r ⊎ IsWantOfMemory r) }

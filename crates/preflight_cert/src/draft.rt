@@ -104,7 +104,7 @@ fn put_prefix(text: &mut [u8], prefix: &[u8])
 fn space_for(rules: Rules) -> usize
     ensures { result ≡ space_for rules }
 {
-    if rules.has_fine_plane() {
+    if rules.is_print() {
         PRINT_HEAD_SIZE
     } else {
         HEAD_SIZE
@@ -115,7 +115,7 @@ fn space_for(rules: Rules) -> usize
 fn first_version(rules: Rules) -> Version
     ensures { result ≡ version_for rules [] }
 {
-    if rules.has_fine_plane() {
+    if rules.is_print() {
         Version::Mpc2
     } else {
         Version::Mpc1

@@ -42,7 +42,7 @@ impl EmfPlus {
     pub fn is_alone(self, rules: Rules) -> bool
         ensures { result ≡ is_emf_plus_alone rules self }
     {
-        rules.has_fine_plane() && self.is_contained && !self.is_drawn
+        rules.is_print() && self.is_contained && !self.is_drawn
     }
 
     /// What the records use, after the last of this many, with this many deletions of selected objects. Fails with

@@ -2,6 +2,7 @@
 
 ghost use Rattle.preflight_cert.specs.Answer.{AnswerLaws};
 ghost use Rattle.preflight_cert.specs.ClearedFacts.{ClearedIsSound};
+ghost use Rattle.preflight_cert.specs.CoreLaws.{CoreLaws};
 ghost use Rattle.preflight_cert.specs.DrawingBoxLaws.{DrawingBoxLaws};
 ghost use Rattle.preflight_cert.specs.MissedRowsLaws.{MissedRowsLaws};
 ghost use Rattle.preflight_cert.specs.NeedLaws.{NeedLaws};
@@ -32,6 +33,11 @@ pub fn run_law()
     file_law();
     order_law();
 }
+
+/// Under the core profile a run stops only in a step, or where the records break, and uses nothing that can be allowed.
+pub fn core_law()
+    ensures { CoreLaws }
+{}
 
 /// The law of drawings' boxes. Take a box of the plane that contains the points of a shape. Unless the shape is the
 /// inside of open figures, all its pixels lie in that box, placed on the surface and widened by the shape's nib. A

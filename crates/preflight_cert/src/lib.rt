@@ -24,6 +24,8 @@
 //!   less (`prepare`, `preparation_law`). So it is cleared without a check (`Prepared::clear`).
 //! - A file that plays at a bound has a certificate for it. What is prepared for a file is a certificate with all
 //!   numbers within their limits, and is accepted (`prepared_law`).
+//! - Under the core profile a run stops only in a step, or where the records break, and uses nothing that can be allowed
+//!   (`core_law`).
 //! - Reading returns what was written, and bytes that are read are the text of what they describe (`text_law`).
 #![tactic(auto)]
 
@@ -54,7 +56,7 @@ pub use checking::check;
 pub use cleared::Cleared;
 pub use emf_plus::EmfPlus;
 pub use laws::{
-    answer_law, cleared_law, drawing_box_law, missed_rows_law, need_law, preparation_law,
+    answer_law, cleared_law, core_law, drawing_box_law, missed_rows_law, need_law, preparation_law,
     prepared_law, rows_law, run_law, size_law, text_law,
 };
 pub use prepared::Prepared;

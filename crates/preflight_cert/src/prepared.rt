@@ -94,6 +94,7 @@ impl<'a> Prepared<'a> {
     pub fn clear(&self) -> Cleared<'_>
         ensures opened { result.opened ≡ self.now.opened }
         ensures read { read_certificate self.now.text.items ≡ Ok (certificate_of result.certificate) }
+        ensures certificate_rules { result.certificate.rules ≡ rules_in self.now.text.items }
         ensures records { result.records ≡ self.now.records }
         ensures notes { result.notes ≡ self.now.notes }
         ensures uses { result.uses ≡ self.now.uses }

@@ -1,7 +1,7 @@
 //! The versions of certificates.
 
 ghost use Rattle.std.specs.Prelude.{◌≡◌};
-ghost use Rattle.preflight_cert.specs.CertificateReading.{entry_size, mark_of, version_of};
+ghost use Rattle.preflight_cert.specs.CertificateReading.{entry_size, signature_of, version_of};
 
 /// What the entries of a certificate contain. Its first four bytes determine the version.
 #[derive(Clone, Copy, Debug, PartialEq, Eq)]
@@ -14,13 +14,13 @@ pub enum Version {
 
 impl Version {
     /// The version of a certificate by its first four bytes, read as a number.
-    #[tactic(auto, unfolding(crate::specs::CertificateReading::mark_of))]
-    pub(crate) fn of_mark(mark: u32) -> Option<Version>
-        ensures { result ≡ version_of mark }
+    #[tactic(auto, unfolding(crate::specs::CertificateReading::signature_of))]
+    pub(crate) fn of_signature(signature: u32) -> Option<Version>
+        ensures { result ≡ version_of signature }
     {
-        if mark == Version::Mpc1.mark() {
+        if signature == Version::Mpc1.signature() {
             Some(Version::Mpc1)
-        } else if mark == Version::Mpc2.mark() {
+        } else if signature == Version::Mpc2.signature() {
             Some(Version::Mpc2)
         } else {
             None
@@ -28,9 +28,9 @@ impl Version {
     }
 
     /// The first four bytes, as a number.
-    #[tactic(auto, unfolding(crate::specs::CertificateReading::mark_of))]
-    pub(crate) fn mark(self) -> u32
-        ensures { result ≡ mark_of self }
+    #[tactic(auto, unfolding(crate::specs::CertificateReading::signature_of))]
+    pub(crate) fn signature(self) -> u32
+        ensures { result ≡ signature_of self }
     {
         match self {
             Version::Mpc1 => 0x3143_504d,

@@ -2,15 +2,15 @@
 
 ghost use Rattle.std.specs.Prelude.{◌≡◌, ◌++◌, [], ◌∷◌, IfOk, OnOk};
 ghost use Rattle.std.specs.Int.{cast_unsigned, to_le_bytes, w16, w32, w64};
-ghost use Rattle.preflight_cert.specs.CertificateText.{allowed_number, entry_text, needs_text, nib_text, number_text};
+ghost use Rattle.preflight_cert.specs.CertificateText.{entry_text, needs_text, nib_text, number_text};
 ghost use Rattle.preflight_cert.specs.TextParts.{bound_text, head_text, head_value, signature_numbers, totals_text};
 
 use crate::certificate_entry::Entry;
-use crate::certificate_reading::{PRINT_HEAD_SIZE, PRINT_MARK};
+use crate::certificate_reading::{PRINT_HEAD_SIZE, PRINT_SIGNATURE};
 use crate::version::Version;
 use byteorder::{ByteOrder, LittleEndian};
 use dc_stack::Needs;
-use draw_ops::{Allowances, Rules};
+use draw_ops::Rules;
 use mapping::{Nib, Rect};
 use span_fill::OutOfMemory;
 use std::alloc::Global;
@@ -124,23 +124,16 @@ pub struct Head {
     pub needs: Needs,
 }
 
-/// The number of what is allowed: the sum of 1 for held deletions, and 2 for EMF+ without a drawing.
-fn allowed_number(allowed: Allowances) -> u32
-    ensures { result ≡ allowed_number allowed }
-{
-    u32::from(allowed.held_deletion) + 2 * u32::from(allowed.emf_plus)
-}
-
 /// Appends the signature, and under the print profile what is allowed.
-#[tactic(auto, unfolding(crate::specs::CertificateReading::print_mark))]
+#[tactic(auto, unfolding(crate::specs::CertificateReading::print_signature))]
 fn put_signature(text: &mut Vec<u8>, rules: Rules, version: Version) -> Result<(), OutOfMemory>
     ensures { OnOk result (text.new.items ≡ text.old.items ++ signature_numbers rules version) }
 {
-    if rules.has_fine_plane() {
-        put_number(text, PRINT_MARK)?;
-        put_number(text, allowed_number(rules.allowed))
+    if rules.is_print() {
+        put_number(text, PRINT_SIGNATURE)?;
+        put_number(text, rules.allowed.bits())
     } else {
-        put_number(text, version.mark())
+        put_number(text, version.signature())
     }
 }
 

@@ -1,7 +1,7 @@
 -- The profile in a report, and what a file uses of what its rules allow.
 use Rattle.std.specs.Prelude.{ℕ, ◌==◌, if◌then◌else◌, List, codes}
 use Rattle.serde_json.specs.Data.{Data, Members, no_members, object, put, string}
-use Rattle.draw_ops.specs.RuleSets.{has_fine_plane}
+use Rattle.draw_ops.specs.RuleSets.{is_print}
 use Rattle.draw_ops.specs.declared.rules.Rules.{Rules}
 use Rattle.report_parts.specs.Parts.{whole}
 
@@ -15,8 +15,8 @@ uses_data deletions emf_plus = object (put_used (codes "emf-plus") emf_plus (put
 
 -- under the print profile one member more: the profile
 abbrev pub with_profile : Rules → Members → Members
-with_profile rules members = if has_fine_plane rules then put (codes "profile") (string (codes "print")) members else members
+with_profile rules members = if is_print rules then put (codes "profile") (string (codes "print")) members else members
 
 -- under the print profile one member more: what the file uses of what the rules allow
 abbrev pub with_allowed : Rules → Data → Members → Members
-with_allowed rules uses members = if has_fine_plane rules then put (codes "allowed") uses members else members
+with_allowed rules uses members = if is_print rules then put (codes "allowed") uses members else members

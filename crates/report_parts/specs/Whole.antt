@@ -9,7 +9,7 @@ use Rattle.serde_json.specs.Written.{has_float, members_have_float}
 use Rattle.draw_ops.specs.NoteCounts.{note_count}
 use Rattle.draw_ops.specs.NoteTable.{note_row_of}
 use Rattle.draw_ops.specs.declared.note.Note.{Note}
-use Rattle.draw_ops.specs.RuleSets.{has_fine_plane}
+use Rattle.draw_ops.specs.RuleSets.{is_print}
 use Rattle.draw_ops.specs.declared.rules.Rules.{Rules}
 use Rattle.report_parts.specs.Profile.{put_used, uses_data, with_allowed, with_profile}
 use Rattle.report_parts.specs.Parts.{all_kinds, noted_kinds, notes_data, whole, whole_if}
@@ -54,14 +54,14 @@ uses_whole deletions emf_plus =
     used_whole (emf_plus == 0) (codes "emf-plus") emf_plus (put_used (codes "held-deletion") deletions no_members) held
 
 pub profile_whole : (rules : Rules) (ms : Members) → members_have_float ms ≡ false → members_have_float (with_profile rules ms) ≡ false
-profile_whole rules ms others = by_profile (has_fine_plane rules)
+profile_whole rules ms others = by_profile (is_print rules)
   where
     by_profile : (fine : Bool) → members_have_float (cond fine (put (codes "profile") (string (codes "print")) ms) ms) ≡ false
     by_profile false = others
     by_profile true = put_whole (codes "profile") (string (codes "print")) ms refl others
 
 pub allowed_whole : (rules : Rules) (uses : Data) (ms : Members) → has_float uses ≡ false → members_have_float ms ≡ false → members_have_float (with_allowed rules uses ms) ≡ false
-allowed_whole rules uses ms one others = by_profile (has_fine_plane rules)
+allowed_whole rules uses ms one others = by_profile (is_print rules)
   where
     by_profile : (fine : Bool) → members_have_float (cond fine (put (codes "allowed") uses ms) ms) ≡ false
     by_profile false = others

@@ -42,7 +42,7 @@ pub fn put_profile(
 ) -> Result<(), AllocError>
     ensures { OnOk result (members_view members.new.entries ≡ with_profile rules (members_view members.old.entries)) }
 {
-    if !rules.has_fine_plane() {
+    if !rules.is_print() {
         return Ok(());
     }
     put_text(members, alloc, "profile", "print")
@@ -57,7 +57,7 @@ pub fn put_allowed(
 ) -> Result<(), AllocError>
     ensures { OnOk result (members_view members.new.entries ≡ with_allowed rules (view uses) (members_view members.old.entries)) }
 {
-    if !rules.has_fine_plane() {
+    if !rules.is_print() {
         return Ok(());
     }
     put(members, alloc, "allowed", uses)

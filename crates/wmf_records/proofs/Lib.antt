@@ -2,3 +2,4 @@ pub mod ExtentLemmas
 pub mod WorkedRows
 pub mod WorkedKinds
 pub mod WorkedBitmaps
+pub mod NoteLemmas

@@ -7,3 +7,4 @@ pub mod ObjectRecords
 pub mod StateRecords
 pub mod Wmf
 pub mod FirstExtent
+pub mod NoteLaw

@@ -6,6 +6,7 @@
 //!   (`WmfOps::new` and `next_op`, by `IsContent` of `wmf_framing` and `wmf_meaning`).
 //! - Each record means one operation with its notes, or its first fault (`Wmf`, by `wmf_record`).
 //! - The head of a record contains its size and its function (`framing_law`).
+//! - No record is noted to contain EMF+ (`note_law`).
 //! - Each function occurs only once in the table that says how records are treated (`kinds_law`).
 //! - The extent that gives a plain file's size is the first usable one of its records (`first_extent`).
 //! - A record with a bitmap has the bitmap's faults, whether its raster operation needs a source or not. A record whose
@@ -24,4 +25,4 @@ mod wmf;
 
 pub use entry::kinds_law;
 pub use extent::first_extent;
-pub use wmf::{Wmf, WmfOps, framing_law};
+pub use wmf::{Wmf, WmfOps, framing_law, note_law};

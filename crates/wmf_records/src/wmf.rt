@@ -5,6 +5,7 @@ ghost use Rattle.draw_ops.specs.PrefixLaws.{HoldsItsFields};
 ghost use Rattle.draw_ops.specs.RecordOf.{decoded_of};
 ghost use Rattle.draw_ops.specs.Results.{result_map};
 ghost use Rattle.wmf_records.specs.Framing.{wmf_framing};
+ghost use Rattle.wmf_records.specs.NoteLaw.{NeverEmfPlus};
 ghost use Rattle.wmf_records.specs.Wmf.{wmf_meaning, wmf_record};
 
 use crate::bitmap_records::{
@@ -120,4 +121,9 @@ fn record(entry: WmfEntry, function: u32, bytes: &[u8]) -> Result<Decoded<'_>, R
 /// cut short (`prefix_law`).
 pub fn framing_law()
     ensures { HoldsItsFields wmf_framing }
+{}
+
+/// A law: no record of WMF is noted to contain EMF+.
+pub fn note_law()
+    ensures { NeverEmfPlus }
 {}

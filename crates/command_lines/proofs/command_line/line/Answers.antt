@@ -1,12 +1,12 @@
 -- What the words ask for follows from what clap finds in them.
-use Rattle.std.proofs.Common.{◌≡◌, ◌∙◌, Bool, List, [], Option, Result, Ok, Err, IfErr, IfSome, IsSome, IsErrAnd, ap, false, subst, sym, true}
+use Rattle.std.proofs.Common.{◌≡◌, ◌∙◌, Bool, List, [], Option, Result, Ok, Err, IfErr, IfSome, IsSome, IsErrAnd, ap, codes, false, inl, inr, subst, sym, true}
 use Rattle.clap.specs.Faults.{fault_of, is_simple_and_free}
 use Rattle.clap.specs.Words.{App, Row, Text, app_of, is_simple, kind_of, subcommand_of, subcommand_rows_of, takes}
 use Rattle.clap.specs.declared.error.Error.{Error}
 use Rattle.clap.specs.declared.error.kind.ErrorKind.TheVariants.{OutOfMemory}
 use Rattle.command_lines.specs.Asked.{IsFound}
-use Rattle.command_lines.specs.CommandLine.{metaplay_app, texts_of}
-use Rattle.command_lines.specs.InfoWords.{AreCommandWords}
+use Rattle.command_lines.specs.CommandLine.{IsRightCommand, metaplay_app, texts_of}
+use Rattle.command_lines.specs.InfoWords.{AreAccepted, AreCommandWords, AsksInfoOnce, IsOther}
 use Rattle.command_lines.specs.declared.asked.Asked.{Asked}
 use Rattle.command_lines.proofs.InfoLemmas.{command_words_found, command_words_taken, few_texts}
 use Rattle.command_lines.proofs.ProfileLemmas.{none_wrong}
@@ -42,6 +42,24 @@ returns-in_err-matches-clause-taken c =
     let memory : AreCommandWords (texts_of c.args.words.now) → kind_of c.in_err-matches.field-0.0 ≡ OutOfMemory = λ right.
     c.in_err-matches.ensures.passes (ap (λ (a : App). takes a (texts_of c.args.words.now)) app ∙ command_words_taken (texts_of c.args.words.now) (no_version c.asks_version.result c.if-asks_version.false c.asks_version.ensures) right (few_texts c.args.words.now c.count_law.ensures)) in
     passed_up c.from_residual-in_err-matches.result c.in_err-matches.field-0.0 (λ (error : Error). AreCommandWords (texts_of c.args.words.now) → kind_of error ≡ OutOfMemory) c.from_residual-in_err-matches.ensures.1 memory
+
+pub returns-in_err-matches-clause-accepted : goal.returns-in_err-matches-clause-accepted
+returns-in_err-matches-clause-accepted c =
+    let app : app_of c.in_ok-command.command ≡ metaplay_app = c.in_ok-command.ensures in
+    let memory : AreAccepted (texts_of c.args.words.now) → kind_of c.in_err-matches.field-0.0 ≡ OutOfMemory = λ accepted.
+    c.in_err-matches.ensures.passes (ap (λ (a : App). takes a (texts_of c.args.words.now)) app ∙ accepted.taken) in
+    passed_up c.from_residual-in_err-matches.result c.in_err-matches.field-0.0 (λ (error : Error). AreAccepted (texts_of c.args.words.now) → kind_of error ≡ OutOfMemory) c.from_residual-in_err-matches.ensures.1 memory
+
+pub returns-clause-accepted : goal.returns-clause-accepted
+returns-clause-accepted c = λ accepted.
+    let app : app_of c.in_ok-command.command ≡ metaplay_app = c.in_ok-command.ensures in
+    let met : subcommand_rows_of c.in_ok-matches.matches ≡ subcommand_of metaplay_app (texts_of c.args.words.now) =
+    (c.in_ok-matches.ensures.ok.2 (ap is_simple app)).1 ∙ ap (λ (a : App). subcommand_of a (texts_of c.args.words.now)) app in
+    let found : false ≡ true = elim accepted.right [
+      | inl command ↦ subst IsSome c.in-None.is (c.in_ok-asked.ensures.command_taken (subst IsRightCommand (sym met) command.0) (subst (IsOther (codes "info")) (sym met) command.1))
+      | inr info ↦ subst IsSome c.in-None.is (c.in_ok-asked.ensures.info_taken (subst AsksInfoOnce (sym met) info))
+    ] in
+    cc
 
 pub returns-clause-taken : goal.returns-clause-taken
 returns-clause-taken c = λ right.

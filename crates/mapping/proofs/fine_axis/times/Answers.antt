@@ -25,14 +25,23 @@ returns-clause-value c =
     simp to_z-of_z
 
 -- the absolute value of the product is at most the product of the bounds
-below : (c : goal.Start) → unsigned_abs (c.args.number *ℤ c.args.parts) < 2 ^ 57
-below c =
-    let h : unsigned_abs c.args.number * unsigned_abs c.args.parts ≤ most * 2 ^ 12 = mul-le _ _ _ _ (within c) c.requires.parts_fit in
-    rw (unsigned_abs-mul c.args.number c.args.parts) (omega (arith, h))
+below : (c : goal.Start) (bound : ℕ) → unsigned_abs c.args.number ≤ bound → unsigned_abs (c.args.number *ℤ c.args.parts) ≤ bound * 2 ^ 12
+below c bound within = rw (unsigned_abs-mul c.args.number c.args.parts) (mul-le _ _ _ _ within c.requires.parts_fit)
 
 pub returns-clause-bound : goal.returns-clause-bound
 returns-clause-bound c =
     let fits = product_fits c in
     let a = c.ranges.number in
     let b = c.ranges.parts in
-    simp to_z-of_z (below c)
+    let h = below c most (within c) in
+    let small : unsigned_abs (c.args.number *ℤ c.args.parts) < 2 ^ 57 = omega (arith, h) in
+    simp to_z-of_z small
+
+pub returns-clause-short : goal.returns-clause-short
+returns-clause-short c near =
+    let fits = product_fits c in
+    let a = c.ranges.number in
+    let b = c.ranges.parts in
+    let h = below c 4294967295 (omega (arith, near)) in
+    let small : unsigned_abs (c.args.number *ℤ c.args.parts) < 2 ^ 44 = omega (arith, h) in
+    simp to_z-of_z small

@@ -11,7 +11,6 @@ use Rattle.preflight_cert.specs.After.{uses_after}
 use Rattle.preflight_cert.specs.CertificateReading.{rules_in}
 use Rattle.preflight_cert.proofs.ClearedLemmas.{records_counted}
 use Rattle.preflight_cert.proofs.PreparedLemmas.{gathered_text, held, least_certificate, records_prepared, records_read, bound_back, capacity, short, text_back, text_is}
-use Rattle.preflight_cert.proofs.RulesLemmas.{rules_again}
 use Rattle.preflight_cert.proofs.StartLemmas.{IsAtStart}
 use Rattle.preflight_cert.proofs.preparing.prepare_opened.Goals as goal
 
@@ -65,7 +64,7 @@ returns-in-Ok-finish c =
           c.need_law.ensures c.text_law.ensures c.requires.wide c.requires.high handles fits few);
       counts = records_counted c.content_law.ensures content o opened.records.now c.source.ensures.content noted totals c.of-noted.ensures gathers.records gathers.notes (gathers.uses ∙ ap (λ (s : State). uses_after content.steps s) state);
       rules = ap rules_in (text_is content o opened.records.now w h m c.source.ensures.content at noted totals new before after none gathers text written)
-          ∙ rules_again c.text_law.ensures opened.rules (least_certificate content o w h);
+          ∙ c.text_law.ensures.rules_back opened.rules (least_certificate content o w h);
       refusal = tt;
       number_reported = tt;
     }

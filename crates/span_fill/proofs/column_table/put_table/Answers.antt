@@ -1,7 +1,7 @@
 -- One column more.
 use Rattle.std.proofs.Common.{◌≡◌, ◌≤◌, ℤ, List, subst, sym, ◌∙◌, arith}
 use Rattle.span_fill.specs.Windings.{HasWindings}
-use Rattle.span_fill.proofs.MoveLemmas.{written_back}
+use Rattle.mapping.proofs.ChangedLists.{written_back}
 use Rattle.span_fill.proofs.TableLemmas.{column_added, small_sums}
 use Rattle.span_fill.proofs.column_table.put_table.Goals as goal
 

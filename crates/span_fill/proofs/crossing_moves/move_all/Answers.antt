@@ -4,7 +4,8 @@ use Rattle.std.proofs.Math.ListN.{set}
 use Rattle.std.proofs.lemmas.Int.{to_z-of_z}
 use Rattle.span_fill.specs.Edges.{EdgeCanMove, moved}
 use Rattle.span_fill.specs.declared.edge.ActiveEdge.{ActiveEdge}
-use Rattle.span_fill.proofs.MoveLemmas.{first_same, moved_more, order_step}
+use Rattle.mapping.proofs.ChangedLists.{changed_more, first_same}
+use Rattle.span_fill.proofs.MoveLemmas.{order_step}
 use Rattle.span_fill.proofs.crossing_moves.move_all.Goals as goal
 
 -- an edge where there is none
@@ -24,7 +25,7 @@ loop-edge-preserved c =
     let within : at < length c.args.active.now = omega arith in
     let same = first_same at none c.args.active.now c.loop-edge.active within (omega arith) c.loop-edge.invariant.others in
     let after = set c.loop-edge.active at c.move_on.new.self in
-    let more = moved_more at none c.args.active.now c.loop-edge.active after within c.loop-edge.auto.active c.loop-edge.invariant.done c.loop-edge.invariant.others (ap (set c.loop-edge.active at) c.move_on.ensures) in
+    let more = changed_more moved at none c.args.active.now c.loop-edge.active after within c.loop-edge.auto.active c.loop-edge.invariant.done c.loop-edge.invariant.others (ap (set c.loop-edge.active at) c.move_on.ensures) in
     let edge_is = c.move_on.ensures ∙ ap moved same.0 in
     let fits : FitsSigned w64 c.move_on.new.self.column = search rules in
     let test = simp to_z-of_z at c.goes_on-ordered.ensures in

@@ -3,7 +3,8 @@ use Rattle.std.proofs.Common.{List, subst, sym, ◌∙◌, arith}
 use Rattle.std.specs.List.Sorted.{IsNonDecreasingBy}
 use Rattle.span_fill.specs.Edges.{column_of}
 use Rattle.span_fill.specs.declared.edge.ActiveEdge.{ActiveEdge}
-use Rattle.span_fill.proofs.MoveLemmas.{in_order, written_back}
+use Rattle.mapping.proofs.ChangedLists.{written_back}
+use Rattle.span_fill.proofs.MoveLemmas.{in_order}
 use Rattle.span_fill.proofs.crossing_moves.move_edges.Goals as goal
 
 pub returns-clause-sorted : goal.returns-clause-sorted

@@ -3,11 +3,11 @@ use Rattle.std.proofs.Common.{◌≡◌, ◌<◌, ◌∙◌, ap, arith, get_or, 
 use Rattle.std.proofs.Math.ListN.{set}
 use Rattle.std.proofs.Math.Seq.{map-set_same}
 use Rattle.std.proofs.lemmas.List.{get_or-map, length-map, map-set}
+use Rattle.mapping.proofs.ChangedLists.{changed_more}
 use Rattle.dc_stack.specs.Deleting.{dc_without}
 use Rattle.dc_stack.specs.Values.{dc_value}
 use Rattle.dc_stack.specs.declared.clip.Clip.{Clip}
 use Rattle.dc_stack.specs.declared.dc.Dc.{Dc}
-use Rattle.dc_stack.proofs.DeletionLemmas.{one_more}
 use Rattle.dc_stack.proofs.machine.objects.all_let_go.Goals as goal
 
 pub loop-dc-preserved : goal.loop-dc-preserved
@@ -29,7 +29,7 @@ loop-dc-preserved c =
     let after : map dc_value (set c.loop-dc.saved at new) ≡ set now_ at (free (get_or now_ at (dc_value one))) =
     map-set dc_value c.loop-dc.saved at new ∙ ap (set now_ at) (c.let_go.ensures.value ∙ ap free (sym here))
     in
-    let more = one_more free at (dc_value one) before now_ (map dc_value (set c.loop-dc.saved at new)) within long c.loop-dc.invariant.done c.loop-dc.invariant.others after in
+    let more = changed_more free at (dc_value one) before now_ (map dc_value (set c.loop-dc.saved at new)) within long c.loop-dc.invariant.done c.loop-dc.invariant.others after in
     record {
       done = more.0;
       others = more.1;
