@@ -17,7 +17,7 @@ from writers import PROGRAM, ROOT
 FILES = instruction_files.FILES | {named_print(name): under_print(made) for name, made in instruction_files.FILES.items()} | PARTS
 
 # How many times the instructions on record a file may take at most, where that is less than for others.
-CLOSE = instruction_files.CLOSE | {named_print(name): most for name, most in instruction_files.CLOSE.items()} | dict.fromkeys(PARTS, 1.15)
+CLOSE = instruction_files.CLOSE | {named_print(name): most for name, most in instruction_files.CLOSE.items()} | dict.fromkeys(PARTS, 1.1)
 
 RECORD = ROOT / "bench" / "instructions.json"
 
