@@ -10,14 +10,20 @@ import tempfile
 from concurrent.futures import ThreadPoolExecutor
 
 import instruction_files
+import row_files
+import stroke_files
 from print_files import PARTS, named_print, under_print
 from writers import PROGRAM, ROOT
 
+# The files whose instructions are counted under both profiles, and those of them with a limit of their own.
+BOTH = instruction_files.FILES | row_files.FILES | stroke_files.FILES
+CLOSE_BOTH = instruction_files.CLOSE | row_files.CLOSE
+
 # Each file under the core profile and under the print profile, and those whose work is in parts of a unit.
-FILES = instruction_files.FILES | {named_print(name): under_print(made) for name, made in instruction_files.FILES.items()} | PARTS
+FILES = BOTH | {named_print(name): under_print(made) for name, made in BOTH.items()} | PARTS
 
 # How many times the instructions on record a file may take at most, where that is less than for others.
-CLOSE = instruction_files.CLOSE | {named_print(name): most for name, most in instruction_files.CLOSE.items()} | dict.fromkeys(PARTS, 1.1)
+CLOSE = CLOSE_BOTH | {named_print(name): most for name, most in CLOSE_BOTH.items()} | dict.fromkeys(PARTS, 1.1)
 
 RECORD = ROOT / "bench" / "instructions.json"
 

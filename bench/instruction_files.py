@@ -687,4 +687,4 @@ CLOSE = dict.fromkeys(
         "20 strokes beside a narrow surface, 16 by 64",
     ],
     1.15,
-)
+) | dict.fromkeys(["12,000 lists of two to five points, 64 by 8,192", "10 tall drawings in bands, 8,192 by 2,048"], 1.1)

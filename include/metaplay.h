@@ -10,7 +10,10 @@
  * - A length is below 2^63.
  * - A pointer to a struct is aligned for it.
  * - A buffer that a call writes, or the struct behind a pointer, overlaps nothing else that the call is given.
- * - No other thread writes what a running call reads, and no other thread reads or writes what it writes.
+ * - Nothing changes what a running call reads: no thread, no process that shares the memory or writes a file that is
+ *   mapped there, and no device. No other thread reads or writes what the call writes.
+ * - A call returns before its caller goes on: it isn't left by `longjmp`, by an exception of the allocator, or by the
+ *   cancelling of its thread.
  * - `malloc`, `realloc` and `free` are those of one allocator.
  * - `malloc` and `realloc` align a block to each power of two up to 16 that divides its size.
  * - A function isn't called from a signal handler.
@@ -32,7 +35,10 @@
 extern "C" {
 #endif
 
-/* How a call ended. Only a call that is done changes a buffer or a struct. */
+/*
+ * How a call ended. Only a call that is done changes a buffer or a struct. The padding of a struct that is answered may
+ * have any bytes, so compare its fields.
+ */
 enum {
     /* It is done. */
     METAPLAY_DONE = 0,
@@ -133,7 +139,8 @@ metaplay_answer metaplay_play(const uint8_t *file, size_t file_length, const uin
 /*
  * Finds the largest sides within a width and a height that are in the proportion of the file's frame: one of them is
  * the width or the height that is given, and the other is rounded to the nearest, but at least 1. The width and the
- * height must be from 1 to 8,192 (fault 8, BadBound). Only the file's headers are read.
+ * height must be from 1 to 8,192 (fault 8, BadBound). What opening a file reads is read: the headers, and of a plain
+ * WMF the records up to the first that sets the window's extent. No record is checked.
  */
 metaplay_answer metaplay_fitted_sides(const uint8_t *file, size_t file_length, uint32_t width, uint32_t height,
                                       metaplay_sides *sides);

@@ -253,6 +253,21 @@ class RefusedGrowth(RefusedGrowthTest):
                 self.assertEqual(self.calls_for_memory(program, ["4", "4"], many), calls)
                 self.assertEqual(self.calls_for_memory(program, ["300", "300"], few), calls)
 
+    def test_what_is_large_grows_by_more_than_one_at_a_time(self):
+        # A hundred and fifty calls for memory, of which seventeen make room for the entries, twice as much each time.
+        many, most, side = 100_000, 200, "4"
+        for program in PROGRAMS:
+            for script in (f"{many}x pixel 1 1", f"styled_pen 0 0 3 0; select 0; {many}x move 1 1; {many}x line 2 2"):
+                file, certificate, output = (str(self.mark.with_name(name)) for name in ("file", "certificate", "output"))
+                pathlib.Path(file).write_bytes(WMF.file(WMF.records(script), 4, 1))
+                self.assertEqual(answer(program, ["prepare", file, side, side, certificate]), Answer(0, b"", b""))
+                self.assertGreaterEqual(pathlib.Path(certificate).stat().st_size, 20 * many)
+                pair = [file, certificate]
+                for words in (["prepare", file, side, side, output], ["check", *pair], ["play", *pair, side, side], ["show", file, side, side], ["info", file]):
+                    with self.subTest(program=program.name, words=words[0], script=script[:20]):
+                        self.assertEqual((self.refused(1, program, words) or OUT_OF_MEMORY).status, 4)
+                        self.assertIsNone(self.refused(most, program, words))
+
 
 if __name__ == "__main__":
     unittest.main()

@@ -1,6 +1,7 @@
 """The line about a file, compared whole with what `reading` makes of the same bytes: samples, random files, files with faults in their headers,
 files cut short, and odd names."""
 
+import json
 import random
 import unittest
 
@@ -28,6 +29,21 @@ NOTHING_LINE = (
     b'"faults":[{"count":1,"fault":"NotMetafile","number":null}],"file":"","format":null,"frame":null,"notes":{},"number":null,'
     b'"objects":null,"plays":false,"record":null,"records":null,"size":null}\n'
 )
+
+# Of EMF files with a frame of 3 by 3 pixels: Device, Millimeters, and the dots per inch and the frame's size by them, worked out by hand. 100 pixels
+# on 1 mm are 2,540 dots per inch, and 3 of them 3 hundredths of a millimetre. 4,227,330,015 pixels on 25 mm are 4,294,967,295.24 dots per inch, and
+# one pixel more is 4,294,967,296.26. On 1,431,655,765 mm, 3 of 100 pixels take 4,294,967,295 hundredths, and on one millimetre more 4,294,967,298.
+LONGEST = 4294967295
+ON_PAPER = [
+    ((100, 100), (1, 1), [2540, 2540], [3, 3]),
+    ((100, 100), (1431655765, 1431655765), [0, 0], [LONGEST, LONGEST]),
+    ((100, 100), (1431655766, 1), [0, 2540], None),
+    ((100, 100), (1, 1431655766), [2540, 0], None),
+    ((4227330015, 4227330015), (25, 25), [LONGEST, LONGEST], [0, 0]),
+    ((4227330016, 100), (25, 1), None, [0, 3]),
+    ((100, 4227330016), (1, 25), None, [3, 0]),
+    ((4227330016, 100), (25, 1431655766), None, None),
+]
 
 # A window extent of 4 by 4.
 EXTENT = wmf_record(0x020C, i16(4, 4))
@@ -82,6 +98,14 @@ class Information(unittest.TestCase):
         self.check((str(inch), placeable_file([WMF_END], inch=u16(inch), right=i16(7), bottom=i16(-5))) for inch in inches)
         devices = [((1024, 768), (320, 240)), ((1, 1), (1, 1)), ((0, 1), (1, 1)), ((1, 1), (1, 0)), ((3, 7), (2, 5)), ((0xFFFFFFFF, 1), (1, 0xFFFFFFFF))]
         self.check((str(it), emf_file([EMF_END], device=u32(*it[0]), millimetres=u32(*it[1]), frame=i32(-1, 0, 2147483647, -2147483648))) for it in devices)
+
+    def test_each_member_has_its_own_limit(self):
+        files = [emf_file([EMF_END], right=i32(2), bottom=i32(2), device=u32(*it[0]), millimetres=u32(*it[1])) for it in ON_PAPER]
+        wanted = [(dots, size) for _, _, dots, size in ON_PAPER]
+        for program in PROGRAMS:
+            found = [json.loads(line) for line in lines(program, [("", it) for it in files])]
+            self.assertEqual([(it["dots_per_inch"], it["size"]) for it in found], wanted)
+        self.check(("", it) for it in files)
 
     def test_many_faults_of_many_kinds(self):
         unknown = [wmf_record(0x7000 + number % 7) for number in range(50)]

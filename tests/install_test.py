@@ -143,8 +143,10 @@ class Installation(unittest.TestCase):
         made = [ROOT / "packaging/make_deb", package]
         subprocess.run(made, check=True, env={**os.environ, **maintainer})
         first = package.read_bytes()
-        subprocess.run(made, check=True, env={**os.environ, **maintainer})
-        self.assertEqual(package.read_bytes(), first)
+        for mask in (0o077, 0o002):
+            package.unlink()
+            subprocess.run(made, check=True, env={**os.environ, **maintainer}, umask=mask)
+            self.assertTrue(package.read_bytes() == first, oct(mask))
         subprocess.run(["dpkg-deb", "-x", package, whole], check=True)
         moved = {"share/man/man1/metaplay.1": "share/man/man1/metaplay.1.gz", "share/zsh/site-functions/_metaplay": "share/zsh/vendor-completions/_metaplay"}
         wanted = {moved.get(name, name): is_program for name, is_program in INSTALLED.items()} | {"share/doc/metaplay/changelog.gz": False}

@@ -26,8 +26,10 @@ class Instructions(unittest.TestCase):
         cls.taken = count_all(PROGRAMS[0])
 
     def test_a_record_stands_for_each_file(self):
-        self.assertEqual(sorted(on_record()), sorted(FILES))
-        self.assertEqual(len(FILES), 117)
+        recorded = on_record()
+        self.assertEqual([name for name in FILES if name not in recorded], [], "these files have no record; bench/instructions --record counts them")
+        self.assertEqual([name for name in recorded if name not in FILES], [], "these records have no file")
+        self.assertEqual(len(FILES), 157)
 
     def test_the_limit_is_1_3_times_the_record(self):
         self.assertTrue(is_within(1300, 1000))
@@ -37,14 +39,14 @@ class Instructions(unittest.TestCase):
 
     def test_each_file_is_within_the_limit(self):
         recorded = on_record()
-        for name, taken in self.taken.items():
+        for name, taken in ((name, taken) for name, taken in self.taken.items() if name in recorded):
             with self.subTest(file=name):
                 told = f"{taken:,} instructions, {taken / recorded[name]:.2f} times the {recorded[name]:,} on record"
                 self.assertTrue(is_within(taken, recorded[name], most_of(name)), told)
 
     def test_print_takes_little_more_beside_core_than_on_record(self):
         recorded = on_record()
-        for name in (it for it in FILES if named_print(it) in FILES):
+        for name in (it for it in recorded if named_print(it) in recorded):
             fine = named_print(name)
             ratio, before = self.taken[fine] / self.taken[name], recorded[fine] / recorded[name]
             self.assertLess(ratio, MOST_CHANGED * before, f"{name}: {ratio:.3f} times as many under print as under core, {before:.3f} on record")

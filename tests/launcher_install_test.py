@@ -53,6 +53,15 @@ class Installing(Folder):
         self.assertRegex(err, r"metaplay: low could not be built; see .*low\.log\n")
         self.assertFalse(self.prefix.exists())
 
+    def test_a_file_of_the_user_stays_in_each_folder(self):
+        self.is_installed(["low", "meta_main", "low", "metaplay_c"])
+        own = [self.prefix / folder / "mine" for folder in ("share/metaplay/recipes", "share/metaplay", "share/doc/metaplay", "bin", "lib")]
+        for path in own:
+            path.write_text(str(path))
+        self.assertEqual(self.call("uninstall", str(self.prefix)), (0, "", ""))
+        self.assertEqual(sorted(path for path in self.prefix.rglob("*") if not path.is_dir()), sorted(own))
+        self.assertEqual([path.read_text() for path in own], [str(path) for path in own])
+
     def test_nothing_is_built_to_uninstall(self):
         told = f"metaplay: nothing was installed below {self.prefix}\n"
         self.assertEqual((self.call("uninstall", str(self.prefix)), self.calls()), ((0, "", told), []))

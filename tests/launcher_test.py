@@ -28,6 +28,28 @@ class Launcher(Folder):
         self.assertEqual(self.is_run("first", []), "")
         self.assertEqual(sorted(path.name for path in (self.root / "crates/meta_main/out").iterdir()), ["built.list", "built.sums", "lock", "meta_main"])
 
+    def test_each_word_comes_to_the_program_as_it_is(self):
+        # The program says its words, a line each.
+        self.write("crates/meta_main/src/main.rt", 'words; for word do echo "[$word]"; done\n')
+        words = ["show", "a b", " c ", "*", "?[a-z]", "it's", '"q"', "$HOME", "`date`", "~", "", "-n", "--", "#", "é", "a;b&c|d>e"]
+        wanted = "".join(f"[{word}]\n" for word in words)
+        status, out, err = self.call(*words)
+        self.assertEqual((status, out), (0, f"words\n{wanted}"), err)
+        self.assertEqual(self.call(*words), (0, f"words\n{wanted}", ""))
+        self.assertEqual(self.call(), (0, "words\n", ""))
+        odd = self.folder / "a  *'\"$x (b)"
+        odd.mkdir()
+        (odd / "to *'\" it").symlink_to(self.root / "metaplay")
+        moved = shutil.copytree(self.root, odd / "root")
+        for launcher in (odd / "to *'\" it", moved / "metaplay"):
+            ran = subprocess.run([launcher, *words], capture_output=True, text=True, check=False, cwd=self.root, env=self.settings)
+            self.assertEqual((ran.returncode, ran.stdout, ran.stderr), (0, f"words\n{wanted}", ""))
+
+    def test_a_trial_takes_a_file_of_any_name(self):
+        for name in ["a b", "*", "it's", '"q"', "$HOME", "-n", "a\\b", "stdin "]:
+            (self.root / name).write_text("")
+            self.assertEqual(self.call("try", self.root / name, "4", "4")[:2], (0, "tried try -- show stdin 4 4\n"), name)
+
     def test_times_alone_change_nothing(self):
         self.is_run("first", ["low", "meta_main"])
         for path in self.root.rglob("*"):
@@ -114,12 +136,14 @@ class Launcher(Folder):
 
     def test_a_build_that_is_stopped_ends(self):
         (self.kit / "seconds").write_text("30")
-        run = self.begin("list", "x")
-        self.wait_for(lambda: (self.kit / "calls").exists())
-        run.send_signal(signal.SIGTERM)
-        out, _ = run.communicate(timeout=10)
-        self.assertEqual((run.returncode, out), (3, ""))
-        self.assertEqual(sorted(path.name for path in (self.root / "crates/meta_main/out").iterdir()), ["lock"])
+        for number in (signal.SIGTERM, signal.SIGHUP, signal.SIGINT):
+            self.calls()
+            run = self.begin("list", "x")
+            self.wait_for(lambda: (self.kit / "calls").exists())
+            run.send_signal(number)
+            out, _ = run.communicate(timeout=10)
+            self.assertEqual((run.returncode, out), (3, ""), number)
+            self.assertEqual(sorted(path.name for path in (self.root / "crates/meta_main/out").iterdir()), ["lock"])
 
     def kill_group(self, group):
         """Kills what is left of a group of processes."""
@@ -185,6 +209,37 @@ class Launcher(Folder):
         self.assertEqual(self.call("try", sample, "8192", "8192")[0], 2)
         for missing in [self.root / "no file", self.root]:
             self.assertEqual(self.call("try", missing, "4", "4"), (3, "", "metaplay: cannot read\n"))
+
+
+class Put(unittest.TestCase):
+    """A file that the launcher writes changes as a whole."""
+
+    def test_a_file_is_the_old_one_until_all_is_written(self):
+        with tempfile.TemporaryDirectory() as folder:
+            path = pathlib.Path(folder, "a file")
+            for old in (None, "old"):
+                path.unlink(missing_ok=True)
+                if old:
+                    path.write_text(old)
+                words = ["sh", "-uc", 'root=$1; . "$1/launcher/program.sh"; put "$2"', "sh", ROOT, path]
+                with subprocess.Popen(words, stdin=subprocess.PIPE) as run:
+                    run.stdin.write(b"a beginning, ")
+                    run.stdin.flush()
+                    time.sleep(0.3)
+                    self.assertEqual(path.read_text() if path.exists() else None, old)
+                    run.stdin.write(b"and an end")
+                    run.stdin.close()
+                    self.assertEqual(run.wait(timeout=30), 0)
+                self.assertEqual((os.listdir(folder), path.read_text()), (["a file"], "a beginning, and an end"))
+
+    def test_a_file_that_cannot_be_written_stays(self):
+        with tempfile.TemporaryDirectory() as folder:
+            path = pathlib.Path(folder, "file")
+            path.write_text("old")
+            # A folder can't be read.
+            script = 'root=$1; . "$1/launcher/program.sh"; put "$2" <"$3"'
+            ran = subprocess.run(["sh", "-uc", script, "sh", ROOT, path, folder], stderr=subprocess.DEVNULL, check=False)
+            self.assertEqual((ran.returncode != 0, path.read_text()), (True, "old"))
 
 
 class Table(unittest.TestCase):

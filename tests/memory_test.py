@@ -2,18 +2,22 @@
 
 import functools
 import pathlib
+import re
 import resource
+import signal
 import struct
 import subprocess
 import tempfile
 import unittest
 
-from built import DOT, DOT_IMAGE, Answer, answer, for_each_program
+from built import DOT, DOT_IMAGE, PROGRAMS, ROOT, SAMPLES, Answer, answer, for_each_program
 from metafile.bitmaps import QUAD
 from metafile.blits import PATCOPY, SRCCOPY
 from metafile.scripts import EMF, FORMS, SIDE, WMF
 
 MIB = 1 << 20
+
+README = (ROOT / "README.md").read_text(encoding="utf-8")
 
 # What a run may take beside the program itself and the file, whatever the surface: a band takes at most 3 MiB of it, or 5 where rows lie far apart.
 ROOM = 8 * MIB
@@ -200,6 +204,32 @@ class CertifiedMemory(unittest.TestCase):
             self.check(program, EMF, script)
 
 
+# How far rows lie apart where they are as long as may be: 8,192 pixels of three bytes and 64 more.
+WIDEST_ROW = 3 * (8192 + 64)
+
+
+class Bands(unittest.TestCase):
+    """What a band takes by the number of its rows, on the largest surface."""
+
+    @for_each_program
+    def test_a_band_takes_as_many_rows_as_are_asked_for(self, program):
+        with tempfile.TemporaryDirectory() as folder:
+            file, certificate = pathlib.Path(folder, "file"), pathlib.Path(folder, "certificate")
+            file.write_bytes(DOT)
+            self.assertEqual(answer(program, ["prepare", file, "8192", "8192", certificate]), Answer(0, b"", b""))
+            for rows in (1, 2, 32, 64):
+                words = ["play", file, certificate, "8192", "8192", "--bands", str(rows)]
+                within_rows = bare(program) + rows * WIDEST_ROW + MIB // 4
+                self.assertEqual(self.status_within(within_rows, program, words), 0, rows)
+                if rows > 2:
+                    self.assertEqual(self.status_within(bare(program) + rows * WIDEST_ROW - WIDEST_ROW * 8, program, words), 4, rows)
+
+    def status_within(self, limit, program, words):
+        """The status of a run under a limit, whose output is dropped."""
+        ended = subprocess.run([program, *words], stdout=subprocess.DEVNULL, stderr=subprocess.DEVNULL, check=False, preexec_fn=within(limit))
+        return ended.returncode
+
+
 def grown(count):
     """The room of a list that has grown to so many: a power of two."""
     return 1 << (count - 1).bit_length()
@@ -239,6 +269,28 @@ class HeldOnce(unittest.TestCase):
             limit = bare(program) + grown(len(paper)) + 3 * side * side + LITTLE
             played = answer_within(limit, program, ["over", "stdin", certificate, image], DOT)
             self.assertEqual((played.status, played.err, len(played.out)), (0, b"", len(paper)))
+
+
+class Stack(unittest.TestCase):
+    """Runs with as much of a stack as README says is enough, and with less."""
+
+    def test_each_command_runs_with_little_of_a_stack(self):
+        enough, less = (int(number) << 10 for number in re.search(r"took less than (\d+) KiB\. With (\d+) KiB", " ".join(README.split())).groups())
+        with tempfile.TemporaryDirectory() as folder:
+            certificate, image, made = (pathlib.Path(folder, name) for name in ("certificate", "image", "made"))
+            for file in sorted(it for it in SAMPLES.iterdir() if it.suffix in (".wmf", ".emf") and it.stem != "held"):
+                for options in ([], ["--profile", "print"]):
+                    self.assertEqual(answer(PROGRAMS[0], ["prepare", file, "600", "600", certificate, *options]), Answer(0, b"", b""))
+                    image.write_bytes(answer(PROGRAMS[0], ["show", file, "600", "600", *options]).out)
+                    words = [["show", file, "600", "600", *options], ["prepare", file, "600", "600", made, *options], ["check", file, certificate]]
+                    words += [["play", file, certificate, "500", "400"], ["over", file, certificate, image], ["list", file, *options], ["info", file, *options]]
+                    for its in words:
+                        self.assertEqual(self.answer_on(enough, its), answer(PROGRAMS[0], its), (file.name, its[0]))
+                        self.assertEqual(self.answer_on(less, its), Answer(-signal.SIGSEGV, b"", b""), (file.name, its[0]))
+
+    def answer_on(self, size, words):
+        """What the program answers with so many bytes of a stack. Its environment is on the stack too."""
+        return answer(PROGRAMS[0], words, env={}, preexec_fn=lambda: resource.setrlimit(resource.RLIMIT_STACK, (size, size)))
 
 
 class LittleMemory(unittest.TestCase):

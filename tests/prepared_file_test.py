@@ -1,5 +1,6 @@
 """The file that `prepare` writes: it changes as a whole, or not at all."""
 
+import errno
 import os
 import pathlib
 import resource
@@ -14,7 +15,7 @@ import unittest
 from built import DOT, SAMPLES, Answer, answer, for_each_program
 from commands_test import DONE, DOT_CERT
 from metafile.scripts import WMF
-from program_test import CANNOT_WRITE, as_nobody
+from program_test import CANNOT_WRITE, NOBODY, as_nobody
 
 SAME_FILE = Answer(2, b"", b"metaplay: OUT is FILE\n")
 
@@ -43,6 +44,80 @@ int fsync(int file)
     (void)file;
     errno = EDQUOT;
     return -1;
+}
+"""
+
+# Functions in place of the C library's, which say that they are called, and with which file.
+SAYS_ORDER = b"""
+#include <stdio.h>
+#include <sys/syscall.h>
+#include <unistd.h>
+ssize_t write(int file, const void *bytes, size_t count)
+{
+    dprintf(2, "write %d\\n", file);
+    return syscall(SYS_write, file, bytes, count);
+}
+int fsync(int file)
+{
+    dprintf(2, "fsync %d\\n", file);
+    return syscall(SYS_fsync, file);
+}
+int rename(const char *from, const char *to)
+{
+    dprintf(2, "rename\\n");
+    return syscall(SYS_rename, from, to);
+}
+"""
+
+# A function in place of the C library's rename(2), which fails.
+IS_NOT_RENAMED = b"""
+#include <errno.h>
+int rename(const char *from, const char *to)
+{
+    (void)from;
+    (void)to;
+    errno = EPERM;
+    return -1;
+}
+"""
+
+# A function in place of the C library's statx(2): a name that isn't followed can't be looked at, for the reason that LOOK_ERROR has.
+IS_NOT_SEEN = b"""
+#define _GNU_SOURCE
+#include <errno.h>
+#include <fcntl.h>
+#include <stdlib.h>
+#include <sys/stat.h>
+#include <sys/syscall.h>
+#include <unistd.h>
+int statx(int folder, const char *path, int flags, unsigned mask, struct statx *found)
+{
+    if (flags & AT_SYMLINK_NOFOLLOW) {
+        errno = atoi(getenv("LOOK_ERROR"));
+        return -1;
+    }
+    return syscall(SYS_statx, folder, path, flags, mask, found);
+}
+"""
+
+# The same where each file has the same inode number, and lies on the device that its name has: the major number behind a comma.
+IS_ON_A_DEVICE = b"""
+#define _GNU_SOURCE
+#include <stdlib.h>
+#include <string.h>
+#include <sys/stat.h>
+#include <sys/syscall.h>
+#include <unistd.h>
+int statx(int folder, const char *path, int flags, unsigned mask, struct statx *found)
+{
+    int status = syscall(SYS_statx, folder, path, flags, mask, found);
+    const char *comma = strchr(path, ',');
+    if (status == 0 && comma != NULL) {
+        found->stx_ino = 7;
+        found->stx_dev_major = atoi(comma + 1);
+        found->stx_dev_minor = atoi(strchr(comma + 1, ',') + 1);
+    }
+    return status;
 }
 """
 
@@ -88,6 +163,108 @@ class PreparedFile(unittest.TestCase):
     @for_each_program
     def test_what_is_no_plain_file_is_not_forced_to_the_disk(self, program):
         self.assertEqual(self.prepare(program, "/dev/null", env=self.preloading(IS_FULL_AT_LAST)), DONE)
+
+    @for_each_program
+    def test_the_new_file_is_on_the_disk_before_it_is_renamed(self, program):
+        settings = self.preloading(SAYS_ORDER)
+        for old in (None, OLD):
+            self.out.unlink(missing_ok=True)
+            if old:
+                self.out.write_bytes(old)
+            said = self.prepare(program, self.out, env=settings)
+            *writes, synced, renamed = said.err.decode().splitlines()
+            self.assertEqual((said.status, renamed, self.out.read_bytes()), (0, "rename", DOT_CERT))
+            self.assertEqual({it.replace("write", "fsync") for it in writes}, {synced})
+
+    @for_each_program
+    def test_a_file_that_cannot_be_renamed_is_removed(self, program):
+        settings = self.preloading(IS_NOT_RENAMED)
+        for old in (None, OLD):
+            self.out.unlink(missing_ok=True)
+            if old:
+                self.out.write_bytes(old)
+            self.assertEqual(self.prepare(program, self.out, env=settings), CANNOT_WRITE)
+            self.assertEqual(self.names(), ["out"] if old else [])
+            self.assertEqual(self.out.read_bytes() if old else None, old)
+
+    @unittest.skipUnless(os.getuid() == 0, "only the superuser can run a program as another user")
+    @for_each_program
+    def test_a_file_of_another_user_in_a_sticky_folder_stays(self, program):
+        copy = self.copied(program)
+        self.folder.chmod(0o1777)
+        self.out.write_bytes(OLD)
+        self.out.chmod(0o666)
+        self.assertEqual(self.prepare(copy, self.out, preexec_fn=as_nobody), CANNOT_WRITE)
+        self.assertEqual((self.out.read_bytes(), self.names()), (OLD, ["out"]))
+
+    @for_each_program
+    def test_a_file_that_may_not_be_written_stays(self, program):
+        copy = self.copied(program)
+        self.folder.chmod(0o777)
+        for mode in (0o444, 0o555, 0o000):
+            self.out.unlink(missing_ok=True)
+            self.out.write_bytes(OLD)
+            if os.getuid() == 0:
+                os.chown(self.out, NOBODY, NOBODY)
+            self.out.chmod(mode)
+            self.assertEqual(self.prepare(copy, self.out, preexec_fn=as_nobody), CANNOT_WRITE, oct(mode))
+            self.out.chmod(0o600)
+            self.assertEqual((self.out.read_bytes(), self.names()), (OLD, ["out"]))
+
+    @for_each_program
+    def test_a_name_that_cannot_be_looked_at_is_not_free(self, program):
+        settings = self.preloading(IS_NOT_SEEN)
+        for error in (errno.ELOOP, errno.ENOTDIR, errno.EACCES, errno.EIO, errno.ENAMETOOLONG, errno.ESTALE, errno.EINVAL):
+            for old in (None, OLD):
+                self.out.unlink(missing_ok=True)
+                if old:
+                    self.out.write_bytes(old)
+                told = self.prepare(program, self.out, env=settings | {"LOOK_ERROR": str(error)})
+                self.assertEqual(told, CANNOT_WRITE, errno.errorcode[error])
+                self.assertEqual((self.names(), self.out.read_bytes() if old else None), (["out"] if old else [], old))
+
+    @for_each_program
+    def test_a_loop_of_links_and_a_part_that_is_no_folder(self, program):
+        for name in ("one", "other", "file"):
+            (self.folder / name).unlink(missing_ok=True)
+        (self.folder / "one").symlink_to("other")
+        (self.folder / "other").symlink_to("one")
+        (self.folder / "file").write_bytes(OLD)
+        for name in ("one", "one/out", "file/out", "file/", "no/out"):
+            self.assertEqual(self.prepare(program, name, cwd=self.folder), CANNOT_WRITE, name)
+            self.assertEqual((self.names(), (self.folder / "file").read_bytes()), (["file", "one", "other"], OLD))
+            self.assertEqual([os.readlink(self.folder / name) for name in ("one", "other")], ["other", "one"])
+
+    @for_each_program
+    def test_a_file_of_another_device_is_another_file(self, program):
+        settings = self.preloading(IS_ON_A_DEVICE)
+        for others, wanted in [(["1,2", "01,2", "1,02"], SAME_FILE), (["2,2", "1,3", "2,1", "257,2"], DONE)]:
+            for other in others:
+                file, out = self.folder / "file,1,2", self.folder / f"out,{other}"
+                file.write_bytes(DOT)
+                out.write_bytes(OLD)
+                told = answer(program, ["prepare", file, "4", "4", out], env=settings)
+                self.assertEqual((told, out.read_bytes()), (wanted, DOT_CERT if wanted == DONE else OLD), other)
+
+    @unittest.skipUnless(os.access("/dev/shm", os.W_OK), "there is no second file system")
+    @for_each_program
+    def test_a_file_of_another_file_system_is_written(self, program):
+        with tempfile.TemporaryDirectory(dir="/dev/shm") as folder:
+            file, out = self.folder / "file", pathlib.Path(folder, "out")
+            self.assertNotEqual(self.folder.stat().st_dev, out.parent.stat().st_dev)
+            file.write_bytes(DOT)
+            for _ in range(2):
+                self.assertEqual(answer(program, ["prepare", file, "4", "4", out]), DONE)
+                self.assertEqual((os.listdir(folder), out.read_bytes()), (["out"], DOT_CERT))
+
+    def copied(self, program):
+        """A copy of a program that anyone may run."""
+        folder = tempfile.mkdtemp()
+        self.addCleanup(shutil.rmtree, folder)
+        os.chmod(folder, 0o755)
+        copy = shutil.copy(program, folder)
+        os.chmod(copy, 0o755)
+        return copy
 
     def names(self):
         """The names in the folder."""
@@ -148,7 +325,7 @@ class PreparedFile(unittest.TestCase):
 
     @for_each_program
     def test_names_that_are_taken_are_left_as_they_are(self, program):
-        for count in (0, 1, 2, 9, 10, 11, 100):
+        for count in (0, 1, 2, 9, 10, 11, 100, 1_000, 2_000):
             taken = [f".metaplay-{nth}" for nth in range(count)]
             for path in list(self.folder.iterdir()):
                 path.unlink()
@@ -195,10 +372,7 @@ class PreparedFile(unittest.TestCase):
 
     @for_each_program
     def test_a_folder_that_takes_no_file(self, program):
-        copy = shutil.copy(program, tempfile.mkdtemp())
-        self.addCleanup(shutil.rmtree, os.path.dirname(copy))
-        os.chmod(os.path.dirname(copy), 0o755)
-        os.chmod(copy, 0o755)
+        copy = self.copied(program)
         self.out.write_bytes(OLD)
         self.out.chmod(0o666)
         self.folder.chmod(0o755)
@@ -221,6 +395,34 @@ class PreparedFile(unittest.TestCase):
                     told = answer(program, ["prepare", words[0], "4", "4", words[1], *options], cwd=self.folder)
                     self.assertEqual((told, file.read_bytes()), (SAME_FILE, DOT), (words, options))
         self.assertEqual(self.names(), ["file", "link", "second"])
+
+    @for_each_program
+    def test_another_file_is_replaced(self, program):
+        # Another file with the same bytes, with the same name elsewhere, with links that lead to it, or none yet.
+        for options in ([], ["--profile", "core"], ["--profile", "print"]):
+            wanted = self.certificate(program, options)
+            for name in ["other", "copy", "link", "second", "more/file", "missing", "dangling"]:
+                shutil.rmtree(self.folder / "more", ignore_errors=True)
+                for path in self.folder.iterdir():
+                    path.unlink()
+                (self.folder / "more").mkdir()
+                (self.folder / "file").write_bytes(DOT)
+                (self.folder / "other").write_bytes(OLD)
+                (self.folder / "copy").write_bytes(DOT)
+                (self.folder / "more/file").write_bytes(DOT)
+                (self.folder / "link").symlink_to("copy")
+                (self.folder / "dangling").symlink_to("nothing")
+                os.link(self.folder / "copy", self.folder / "second")
+                told = answer(program, ["prepare", "file", "4", "4", name, *options], cwd=self.folder)
+                self.assertEqual((told, (self.folder / name).read_bytes()), (DONE, wanted), (name, options))
+                self.assertEqual((self.folder / "file").read_bytes(), DOT)
+
+    def certificate(self, program, options):
+        """The dot's certificate with these options."""
+        self.assertEqual(answer(program, ["prepare", "stdin", "4", "4", self.out, *options], DOT), DONE)
+        given = self.out.read_bytes()
+        self.out.unlink()
+        return given
 
     @for_each_program
     def test_nothing_is_read_before_that(self, program):

@@ -257,6 +257,47 @@ class Recipes(unittest.TestCase):
         self.assertEqual((status, "--profile needs core or print" in json.loads(out)["said"]), (1, True))
 
     @needs("jq")
+    def test_a_certificate_that_is_there_goes_by_the_options(self):
+        core, fine = (), ("--profile", "print")
+        held, plus = ("--allow", "held-deletion"), ("--allow=emf-plus",)
+        is_core, is_fine = (f"the certificate isn't for the {name} profile" for name in ("print", "core"))
+        has_held, has_plus = ("the certificate allows " + name for name in ("held-deletion", "emf-plus"))
+        no_options, needs_print = "metaplay prepare has no such options", "an allowance needs the print profile"
+        # How the certificate is made, the options of the check, and what is said if it isn't accepted.
+        for made, asked, said in [
+            (core, core, None),
+            (core, ("--profile=core",), None),
+            (core, fine, is_core),
+            (core, (*fine, *held), is_core),
+            (core, held, needs_print),
+            (fine, core, is_fine),
+            (fine, ("--profile", "core"), is_fine),
+            (fine, fine, None),
+            (fine, ("--profile=print", *held, *plus), None),
+            ((*fine, *held), fine, has_held),
+            ((*fine, *held), (*fine, *plus), has_held),
+            ((*fine, *held), (*fine, *held), None),
+            ((*fine, *held), (*held, *plus, *fine), None),
+            ((*fine, *plus), fine, has_plus),
+            ((*fine, *plus), (*fine, *held), has_plus),
+            ((*fine, *plus), (*fine, *plus), None),
+            ((*fine, *held, *plus), fine, has_held),
+            ((*fine, *held, *plus), (*fine, *held), has_plus),
+            ((*fine, *held, *plus), (*fine, *plus), has_held),
+            ((*fine, *held, *plus), (*fine, *held, *plus), None),
+            (core, ("--profile",), no_options),
+            (core, ("--profile", "paper"), no_options),
+            (core, ("--rules", "print"), no_options),
+            (fine, (*fine, "--allow", "all"), no_options),
+        ]:
+            with self.subTest(made=made, asked=asked):
+                prepared = self.run_words("./metaplay", "prepare", "dot.wmf", "64", "64", "dot.wmf.mpc", *made)
+                self.assertEqual(prepared, (0, b"", b""))
+                status, out, err = self.run_words(RECIPES / "check-file", "64", "64", *asked, "dot.wmf")
+                report = json.loads(out)
+                self.assertEqual((status, report["accepted"], report.get("said"), err), (int(said is not None), said is None, said, b""))
+
+    @needs("jq")
     def test_without_a_report_a_file_is_not_accepted(self):
         words = [RECIPES / "check-file", "64", "64", "dot.wmf"]
         self.assertEqual(self.run_words(*words)[0], 0)

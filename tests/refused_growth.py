@@ -1,5 +1,6 @@
 """Runs of a program whose allocations are refused in turn: the first in one run, the second in the next, and so on to the last."""
 
+import itertools
 import os
 import pathlib
 import subprocess
@@ -23,18 +24,21 @@ class RefusedGrowthTest(unittest.TestCase):
         build = ["cc", "-O2", "-Wall", "-Wextra", "-Werror", "-shared", "-fPIC"]
         subprocess.run([*build, "-o", cls.library, source, "-ldl"], check=True)
 
+    def refused(self, number, program, words, given=b""):
+        """What the program answers where its growth of this number is refused, or None where it doesn't come so far."""
+        self.mark.unlink(missing_ok=True)
+        refusal = {
+            "LD_PRELOAD": self.library,
+            "REFUSE_GROWTH": str(number),
+            "REFUSED_GROWTH": str(self.mark),
+        }
+        answered = answer(program, words, given, env={**os.environ, **refusal})
+        return answered if self.mark.exists() else None
+
     def under_refusals(self, program, words, given=b""):
         """What the program answers where its first growth is refused, and its second, and so on to its last."""
-        number = 0
-        while True:
-            number += 1
-            self.mark.unlink(missing_ok=True)
-            refusal = {
-                "LD_PRELOAD": self.library,
-                "REFUSE_GROWTH": str(number),
-                "REFUSED_GROWTH": str(self.mark),
-            }
-            answered = answer(program, words, given, env={**os.environ, **refusal})
-            if not self.mark.exists():
+        for number in itertools.count(1):
+            answered = self.refused(number, program, words, given)
+            if answered is None:
                 return
             yield number, answered

@@ -43,8 +43,14 @@ def nearest(number):
     return floor(number + Fraction(1, 2))
 
 
+def short(numbers):
+    """The nearest whole numbers, if none has more than 32 bits."""
+    found = [nearest(it) for it in numbers]
+    return None if max(found) > LARGEST else found
+
+
 def paper(file, form, frame):
-    """The dots per inch on both axes and the frame's size in hundredths of a millimetre, if the headers give them."""
+    """The dots per inch on both axes and the frame's size in hundredths of a millimetre, each if the headers give it."""
     head = Record(file)
     if form is PLACEABLE:
         dots = [Fraction(head.u16(14))] * 2
@@ -54,8 +60,7 @@ def paper(file, form, frame):
         return None, None
     if 0 in dots:
         return None, None
-    found = [nearest(it) for it in dots], [nearest(side * 2540 / it) for side, it in zip(frame, dots, strict=True)]
-    return (None, None) if max(map(max, found)) > LARGEST else found
+    return short(dots), short([side * 2540 / it for side, it in zip(frame, dots, strict=True)])
 
 
 class Counts:

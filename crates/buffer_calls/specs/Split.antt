@@ -1,5 +1,5 @@
 -- A text whose header goes to an array, and whose samples go to a buffer.
-use Rattle.std.specs.Prelude.{◌≡◌, ◌≤◌, ℕ, ◌+◌, ◌-◌, List, ◌∷◌, ◌++◌, length, take, drop}
+use Rattle.std.specs.Prelude.{◌≡◌, ◌≤◌, ℕ, ◌+◌, ◌-◌, if◌then◌else◌, nat_lt, List, ◌∷◌, ◌++◌, length, take, drop}
 use Rattle.std.specs.Borrow.{MutBor}
 use Rattle.buffer_calls.specs.declared.split.Split.{Split}
 
@@ -22,6 +22,12 @@ rest_of split samples = drop (split.written - split.header_length) samples
 -- how many bytes the buffer has capacity for after those that were written
 abbrev pub capacity_left : Split → List ℕ → ℕ
 capacity_left split samples = length samples - (split.written - split.header_length)
+
+-- how many bytes are taken at once at most: up to the end of the header, or after it as many as the buffer has capacity
+-- for
+abbrev pub taken_at_once : Split → List ℕ → ℕ
+taken_at_once split samples =
+    if nat_lt split.written split.header_length then split.header_length - split.written else capacity_left split samples
 
 -- this many more bytes were written after a header of the same length, and the rest of the buffer is unchanged
 pub record GoesOn (count : ℕ) (old : Split) (before : List ℕ) (new : Split) (after : List ℕ) : Type 0 where

@@ -1,6 +1,6 @@
 //! Plays a cleared file into a buffer of samples.
 
-ghost use Rattle.std.specs.Prelude.{◌≡◌, ◌*◌, ◌≤◌, length, OnErr, OnOk};
+ghost use Rattle.std.specs.Prelude.{◌≡◌, ◌⊎◌, ◌+◌, ◌*◌, ◌^◌, ◌<◌, ◌≤◌, length, OnErr, OnOk};
 ghost use Rattle.canvas.specs.Ppm.{header};
 ghost use Rattle.player.specs.Bounds.{IsWithinBound};
 ghost use Rattle.buffer_calls.specs.Plays.{HasClearedSamples};
@@ -24,7 +24,9 @@ const BAND_PIXELS: u32 = 1 << 20;
 /// The number of rows in a band.
 fn band_rows(width: u32) -> u32
     requires { 1 ≤ width }
-    ensures { 1 ≤ result }
+    ensures some { 1 ≤ result }
+    ensures few { (result ≡ 1) ⊎ (result * width ≤ 2 ^ 20) }
+    ensures most { 2 ^ 20 < (result + 1) * width }
 {
     (BAND_PIXELS / width).max(1)
 }

@@ -1,6 +1,6 @@
 //! A text of which the header goes to an array, and the samples to a buffer.
 
-ghost use Rattle.std.specs.Prelude.{◌≡◌, ◌+◌, ◌<◌, ◌≤◌, ◌++◌, length, min, take};
+ghost use Rattle.std.specs.Prelude.{◌≡◌, ◌+◌, ◌-◌, ◌<◌, ◌≤◌, ◌++◌, length, min, take};
 
 use crate::copying::put;
 
@@ -24,7 +24,7 @@ pub(crate) struct Split {
 }
 
 impl Split {
-    ghost use Rattle.buffer_calls.specs.Split.{GoesOn, IsFull, capacity_left, header_of, text_of};
+    ghost use Rattle.buffer_calls.specs.Split.{GoesOn, IsFull, capacity_left, header_of, taken_at_once, text_of};
 
     /// Takes as many of the bytes as header and buffer have capacity for, and returns how many.
     pub(crate) fn accept(&mut self, samples: &mut [u8], bytes: &[u8]) -> usize
@@ -32,6 +32,7 @@ impl Split {
         ensures bound { result ≤ length bytes.now }
         ensures text { text_of self.new samples.new ≡ text_of self.old samples.old ++ take result bytes.now }
         ensures next { GoesOn result self.old samples.old self.new samples.new }
+        ensures count { result ≡ min (length bytes.now) (taken_at_once self.old samples.old) }
         ensures full { result ≡ 0 → 0 < length bytes.now → IsFull self.new samples.new }
     {
         if self.written < self.header_length {
@@ -46,6 +47,7 @@ impl Split {
         requires header { self.old.written < self.old.header_length }
         ensures bound { result ≤ length bytes.now }
         ensures some { 0 < length bytes.now → 0 < result }
+        ensures count { result ≡ min (length bytes.now) (self.old.header_length - self.old.written) }
         ensures within { self.new.written ≤ self.new.header_length }
         ensures length { self.new.header_length ≡ self.old.header_length }
         ensures written { self.new.written ≡ self.old.written + result }

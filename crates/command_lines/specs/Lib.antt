@@ -2,6 +2,7 @@ pub mod Apps
 pub mod Asked
 pub mod CommandLine
 pub mod Dimensions
+pub mod HelpWords
 pub mod InfoWords
 pub mod RightWords
 pub mod RuleWords

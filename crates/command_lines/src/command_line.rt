@@ -9,6 +9,7 @@ ghost use Rattle.command_lines.specs.CommandLine.{AreRightArguments, GivesAll, H
 ghost use Rattle.command_lines.specs.CommandLine.{check_app, list_app, over_app, play_app, prepare_app, show_app};
 ghost use Rattle.command_lines.specs.InfoWords.{AreAccepted, AreCommandWords, AsksInfoOnce, GivesNamesOnce, HasOneInput, IsOther, names_in};
 ghost use Rattle.command_lines.specs.Dimensions.{HasDimensions};
+ghost use Rattle.command_lines.specs.HelpWords.{AsksHelp};
 ghost use Rattle.command_lines.specs.RuleWords.{AreRightRules};
 ghost use Rattle.command_lines.specs.VersionWords.{AreVersionWords};
 ghost use Rattle.command_lines.specs.WrongWords.{AreWrongWords};
@@ -33,6 +34,7 @@ pub fn line<'a>(alloc: Global, words: &'a [String]) -> Result<Asked<'a>, Error>
     ensures accepted { IfErr result (λ e. AreAccepted (texts_of words.entry.now) → kind_of e ≡ ErrorKind.OutOfMemory) }
     ensures version { AreVersionWords (texts_of words.entry.now) → result ≡ Ok Asked.Version }
     ensures refused { IfOk result (λ _. AreWrongWords (texts_of words.entry.now) → ⊥) }
+    ensures help { IfErr result (λ e. kind_of e ≡ ErrorKind.DisplayHelp → AsksHelp (texts_of words.entry.now)) }
 {
     if asks_version(words) {
         return Ok(Asked::Version);

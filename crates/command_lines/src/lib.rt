@@ -12,6 +12,7 @@
 //! - A profile or an allowance of another name, an allowance without `--profile print`, and a profile that is given twice
 //!   are wrong usage, and so is either option for a command by a certificate (`line`).
 //! - `--version` or `-V` alone asks for the version (`line`).
+//! - An error is help only if help is among what `clap` may answer the words with (`line`).
 //! - Standard input is read for at most one of the files of `info` (`line`).
 #![tactic(auto)]
 

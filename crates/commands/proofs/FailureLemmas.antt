@@ -6,7 +6,7 @@ use Rattle.draw_ops.specs.declared.fault.Fault.TheVariants as fault
 use Rattle.preflight_cert.specs.Refusal.{IsWantOfMemory}
 use Rattle.preflight_cert.specs.declared.refusal.Refusal.{Refusal}
 use Rattle.commands.specs.Ends.{IsDoneBy, IsRejectedBy, PrintsBy, PrintsRefusal, PrintsRejected, WritesBy, WritesRejected, WritesText}
-use Rattle.commands.specs.Failures.{Fails, IsFailureOf, PrintsEnding, ending_of}
+use Rattle.commands.specs.Failures.{Fails, IsFailureOf, IsReasonOf, PrintsEnding, ending_of}
 use Rattle.commands.specs.Tasks.{Task}
 use Rattle.commands.specs.declared.command_end.Completion.{Completion}
 use Rattle.commands.specs.declared.command_end.CommandEnd.TheVariants as end
@@ -35,6 +35,23 @@ printed_by task (Ok u) a old new held now e failed prints rejected = rw e prints
 printed_by task (Err (Rejected r)) a old new held now e failed prints rejected = rw e (rejected (record { refusal = r; rejected = failed.0; reported = prints }))
 printed_by task (Err CannotWrite) a old new held now e failed prints rejected = rw e prints
 printed_by task (Err OutOfMemory) a old new held now e failed prints rejected = rw e prints
+
+-- the same if only the reason is known
+pub printed_for :
+    (task : Task) (done : Result ⊤ Failure) (a : Completion) (held now : Option (List ℕ)) → a.end ≡ ending_of done
+    → IfErr done (IsReasonOf task) → PrintsEnding done a.printed held now
+    → (PrintsRefusal task a.printed held now → PrintsRejected task a.printed held now) → PrintsBy a.end task a.printed held now
+printed_for task (Ok u) a held now e failed prints rejected = rw e prints
+printed_for task (Err (Rejected r)) a held now e failed prints rejected = rw e (rejected (record { refusal = r; rejected = failed; reported = prints }))
+printed_for task (Err CannotWrite) a held now e failed prints rejected = rw e prints
+printed_for task (Err OutOfMemory) a held now e failed prints rejected = rw e prints
+
+-- the reason for a rejection
+pub reason_of : (task : Task) (r : Refusal) (failure : Failure) → (IsRejectedBy task r.number r.fault ⊎ IsWantOfMemory r) → IsFailureOf r failure → IsReasonOf task failure
+reason_of task r (Rejected other) (inl rejected) by = rw by.0 rejected
+reason_of task r (Rejected other) (inr want) by = absurd (by.1 want.fault)
+reason_of task r CannotWrite h by = absurd by
+reason_of task r OutOfMemory h by = tt
 
 -- what holds if an allocation failed
 pub holds_by :

@@ -34,6 +34,8 @@ unread_of_bytes rules name bytes text end.Done line = absurd line
 unread_of_bytes rules name bytes text end.Rejected line = absurd line
 unread_of_bytes rules name bytes text end.CannotWrite line = absurd line
 unread_of_bytes rules name bytes text end.WrongUsage line = absurd line
+unread_of_bytes rules name bytes text end.Help line = absurd line
+unread_of_bytes rules name bytes text end.OutIsFile line = absurd line
 
 -- there are bytes that an input may have
 any_input : (name : List ℕ) (input : Option (List ℕ)) → IsInput name input (unwrap_or input [])

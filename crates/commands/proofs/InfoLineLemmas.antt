@@ -28,6 +28,8 @@ text_of_lines lines = flat_map (λ line. line.text) lines
 abbrev pub CanEnd : CommandEnd → Type 0
 CanEnd end.CannotWrite = ⊥
 CanEnd end.WrongUsage = ⊥
+CanEnd end.Help = ⊥
+CanEnd end.OutIsFile = ⊥
 CanEnd ending = Unit {0}
 
 line_ends : (rules : Rules) (name : List ℕ) (input : Option (List ℕ)) (text : List ℕ) (e : CommandEnd) → IsLineBy e rules name input text → CanEnd e
@@ -37,6 +39,8 @@ line_ends rules name input text end.CannotRead line = tt
 line_ends rules name input text end.OutOfMemory line = tt
 line_ends rules name input text end.CannotWrite line = absurd line.line
 line_ends rules name input text end.WrongUsage line = absurd line.line
+line_ends rules name input text end.Help line = absurd line.line
+line_ends rules name input text end.OutIsFile line = absurd line.line
 
 worse_ends : (a b : CommandEnd) → CanEnd a → CanEnd b → CanEnd (worse a b)
 worse_ends a b first second = go (nat_lt (status_of a) (status_of b)) refl
@@ -140,6 +144,8 @@ lines_finished rules input names end.OutOfMemory old mid new so_far keeps =
     (lines_of_first rules input names end.OutOfMemory old mid new [] (lines_kept rules input names end.OutOfMemory old mid new so_far keeps))
 lines_finished rules input names end.CannotWrite old mid new so_far keeps = absurd so_far.ended
 lines_finished rules input names end.WrongUsage old mid new so_far keeps = absurd so_far.ended
+lines_finished rules input names end.Help old mid new so_far keeps = absurd so_far.ended
+lines_finished rules input names end.OutIsFile old mid new so_far keeps = absurd so_far.ended
 
 -- the lines' end is no failed output
 pub lines_failed : (ending : CommandEnd) (P : Type 0) → CanEnd ending → ending ≡ end.CannotWrite → P

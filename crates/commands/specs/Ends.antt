@@ -72,6 +72,8 @@ WritesBy end.Rejected task old new = WritesRejected task old new
 WritesBy end.CannotWrite task old new = WritesPrefix (IsTextOf task) old new
 WritesBy end.OutOfMemory task old new = Keeps old new
 WritesBy end.WrongUsage task old new = ⊥
+WritesBy end.Help task old new = ⊥
+WritesBy end.OutIsFile task old new = ⊥
 WritesBy end.CannotRead task old new = ⊥
 
 -- the line for the task's rejection was reported
@@ -93,6 +95,8 @@ PrintsBy end.Rejected task printed old new = PrintsRejected task printed old new
 PrintsBy end.CannotWrite task printed old new = Reports printed old new (codes "cannot write")
 PrintsBy end.OutOfMemory task printed old new = Reports printed old new (codes "OutOfMemory")
 PrintsBy end.WrongUsage task printed old new = ⊥
+PrintsBy end.Help task printed old new = ⊥
+PrintsBy end.OutIsFile task printed old new = ⊥
 PrintsBy end.CannotRead task printed old new = ⊥
 
 module _ {W : Type 0} where

@@ -39,6 +39,12 @@ Fails task (Rejected r) old new = IsRejectedBy task r.number r.fault × WritesRe
 Fails task CannotWrite old new = WritesPrefix (IsTextOf task) old new
 Fails task OutOfMemory old new = Keeps old new
 
+-- a task may fail for this reason: a rejection is its own
+abbrev pub IsReasonOf : Task → Failure → Type 0
+IsReasonOf task (Rejected r) = IsRejectedBy task r.number r.fault
+IsReasonOf task CannotWrite = ⊤
+IsReasonOf task OutOfMemory = ⊤
+
 module _ {W : Type 0} where
   -- a task fails for this reason, with this written to a writer with these contents
   abbrev pub FailsWith : Task → (W → Option (List ℕ)) → W → W → Failure → Type 0

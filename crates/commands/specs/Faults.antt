@@ -1,4 +1,4 @@
--- What is reported when an input wasn't read, and how a command ends then.
+-- What is reported when an input wasn't read, and how the program ends if it doesn't come to a command.
 use Rattle.std.specs.Prelude.{ℕ, List, codes}
 use Rattle.commands.specs.declared.command_end.CommandEnd.{CommandEnd}
 use Rattle.commands.specs.declared.command_end.CommandEnd.TheVariants as end
@@ -14,3 +14,10 @@ fault_text OutOfMemory = codes "OutOfMemory"
 abbrev pub input_end : InputFault → CommandEnd
 input_end CannotRead = end.CannotRead
 input_end OutOfMemory = end.OutOfMemory
+
+-- the program can end so if the words are those of no command
+abbrev pub IsUsageEnd : CommandEnd → Type 0
+IsUsageEnd end.WrongUsage = Unit {0}
+IsUsageEnd end.Help = Unit {0}
+IsUsageEnd end.OutOfMemory = Unit {0}
+IsUsageEnd other = ⊥

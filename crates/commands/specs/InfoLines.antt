@@ -1,5 +1,5 @@
 -- What `info` writes, and what it reports.
-use Rattle.std.specs.Prelude.{◌≡◌, ◌↔◌, ◌++◌, ℕ, Bool, List, [], ◌∷◌, Option, codes, flat_map, fold, if◌then◌else◌, nat_lt, true, false}
+use Rattle.std.specs.Prelude.{◌≡◌, ◌≢◌, ◌↔◌, ◌++◌, ℕ, Bool, List, [], ◌∷◌, Option, codes, flat_map, fold, if◌then◌else◌, nat_lt, true, false}
 use Rattle.std.specs.Borrow.{Bor}
 use Rattle.std.specs.List.{AllZip}
 use Rattle.command_lines.specs.InfoWords.{names_in}
@@ -84,6 +84,8 @@ abbrev pub InfoWrites : CommandEnd → List (List ℕ) → Rules → Option (Lis
 InfoWrites end.CannotWrite names rules input old new = WritesPrefix (IsTextAboutFirst rules input names) old new
 InfoWrites end.OutOfMemory names rules input old new = WritesText (IsTextAboutFirst rules input names) old new
 InfoWrites end.WrongUsage names rules input old new = ⊥
+InfoWrites end.Help names rules input old new = ⊥
+InfoWrites end.OutIsFile names rules input old new = ⊥
 InfoWrites ending names rules input old new = WritesText (IsTextAbout rules input names ending) old new
 
 -- What `info` reports on standard error: nothing if all files were read, otherwise one line.
@@ -100,3 +102,7 @@ module _ {W : Type 0} where
 
   abbrev pub PrintsInfo : CommandEnd → Printed → (W → Option (List ℕ)) → W → W → Type 0
   PrintsInfo ending printed contents old new = InfoPrints ending printed (contents old) (contents new)
+
+  -- the output was flushed after the last byte, unless it failed or an allocation did
+  abbrev pub FlushesInfo : CommandEnd → (W → Bool) → W → Type 0
+  FlushesInfo ending flushed new = ending ≢ end.CannotWrite → ending ≢ end.OutOfMemory → flushed new ≡ true

@@ -14,5 +14,6 @@ pub mod Reading
 pub mod Report
 pub mod Reported
 pub mod Statuses
+pub mod Stored
 pub mod Tasks
 pub mod VersionLines

@@ -4,7 +4,8 @@ use Rattle.std.specs.Str.{bytes_eq}
 use Rattle.std.specs.Io.KnownBytes.{Keeps}
 use Rattle.clap.specs.Words.{Text}
 use Rattle.command_lines.specs.CommandLine.{HoldsOfAsked, texts_of}
-use Rattle.command_lines.specs.InfoWords.{AreCommandWords, HoldsOfNames, HoldsOfSomeNames}
+use Rattle.command_lines.specs.HelpWords.{AsksHelp}
+use Rattle.command_lines.specs.InfoWords.{AreAccepted, AreCommandWords, HoldsOfNames, HoldsOfSomeNames}
 use Rattle.commands.specs.Ends.{PrintsBy, WritesBy}
 use Rattle.commands.specs.InfoLines.{InfoPrints, InfoWrites}
 use Rattle.commands.specs.Fitting.{asked_height, asked_width}
@@ -68,14 +69,16 @@ pub record LeavesErr (line : CommandLine) (input : Option (List ℕ)) (end : Com
   pub prints : PrintsBy end (task_of line file certificate image) printed old new
 
 -- What a command line writes to standard output, by how it ends: nothing if an input can't be read, an allocation
--- failed, or OUT is FILE, which is wrong usage.
+-- failed, or OUT is FILE. Its words are right, so it never ends as wrong usage or help.
 abbrev pub OutBy : CommandEnd → CommandLine → Option (List ℕ) → Option (List ℕ) → Option (List ℕ) → Type 0
 OutBy end.Done line input old new = LeavesOut line input end.Done old new
 OutBy end.Rejected line input old new = LeavesOut line input end.Rejected old new
 OutBy end.CannotWrite line input old new = LeavesOut line input end.CannotWrite old new
 OutBy end.CannotRead line input old new = Keeps old new
 OutBy end.OutOfMemory line input old new = Keeps old new
-OutBy end.WrongUsage line input old new = PreparesNamedFile line × Keeps old new
+OutBy end.OutIsFile line input old new = PreparesNamedFile line × Keeps old new
+OutBy end.WrongUsage line input old new = ⊥
+OutBy end.Help line input old new = ⊥
 
 -- What a command line reports on standard error, by how it ends.
 abbrev pub ErrBy : CommandEnd → CommandLine → Option (List ℕ) → Printed → Option (List ℕ) → Option (List ℕ) → Type 0
@@ -84,7 +87,9 @@ ErrBy end.Rejected line input printed old new = LeavesErr line input end.Rejecte
 ErrBy end.CannotWrite line input printed old new = Reports printed old new (codes "cannot write")
 ErrBy end.CannotRead line input printed old new = Reports printed old new (codes "cannot read")
 ErrBy end.OutOfMemory line input printed old new = Reports printed old new (codes "OutOfMemory")
-ErrBy end.WrongUsage line input printed old new = PreparesNamedFile line × Reports printed old new (codes "OUT is FILE")
+ErrBy end.OutIsFile line input printed old new = PreparesNamedFile line × Reports printed old new (codes "OUT is FILE")
+ErrBy end.WrongUsage line input printed old new = ⊥
+ErrBy end.Help line input printed old new = ⊥
 
 -- something holds for what the words ask for: a command on one file, information about files, or the version
 abbrev pub HoldsOfWords : List Text → (CommandLine → Type 0) → (List Text → Rules → Type 0) → Type 0 → Type 0
@@ -94,30 +99,36 @@ HoldsOfWords words of_line of_names of_version = HoldsOfAsked words of_line ⊎ 
 abbrev pub HoldsOfAny : (CommandLine → Type 0) → (List Text → Rules → Type 0) → Type 0 → Type 0
 HoldsOfAny of_line of_names of_version = HoldsOfSome of_line ⊎ (HoldsOfSomeNames of_names ⊎ of_version)
 
--- What the program writes to standard output for its words: anything if they are wrong usage, otherwise what the
--- command that they ask for writes. If an allocation failed, only `info` may have written something.
+-- What the program writes to standard output for its words: nothing if they are wrong usage, the help if they ask for
+-- that, whatever its text, and otherwise what the command that they ask for writes. If an allocation failed, only `info`
+-- may have written something.
 abbrev pub OutOfWords : CommandEnd → List Text → Option (List ℕ) → List ℕ → Option (List ℕ) → Option (List ℕ) → Type 0
-OutOfWords end.WrongUsage words input version old new = ⊤
+OutOfWords end.WrongUsage words input version old new = Keeps old new
+OutOfWords end.Help words input version old new = ⊤
 OutOfWords end.OutOfMemory words input version old new = Keeps old new ⊎ HoldsOfNames words (λ names rules. InfoWrites end.OutOfMemory names rules input old new)
 OutOfWords end words input version old new =
     HoldsOfWords words (λ line. OutBy end line input old new) (λ names rules. InfoWrites end names rules input old new) (VersionWrites end version old new)
 
--- What the program reports on standard error for its words.
+-- What the program reports on standard error for its words: what is wrong with them, whatever the text; nothing beside
+-- help; and otherwise what the command that they ask for reports.
 abbrev pub ErrOfWords : CommandEnd → List Text → Option (List ℕ) → Printed → Option (List ℕ) → Option (List ℕ) → Type 0
 ErrOfWords end.WrongUsage words input printed old new = ⊤
+ErrOfWords end.Help words input printed old new = Keeps old new
 ErrOfWords end.OutOfMemory words input printed old new = Reports printed old new (codes "OutOfMemory")
 ErrOfWords end words input printed old new =
     HoldsOfWords words (λ line. ErrBy end line input printed old new) (λ names rules. InfoPrints end printed old new) (VersionPrints end printed old new)
 
 -- what the program writes to standard output, or reports on standard error, for some words
 abbrev pub OutOfSome : CommandEnd → Option (List ℕ) → List ℕ → Option (List ℕ) → Option (List ℕ) → Type 0
-OutOfSome end.WrongUsage input version old new = ⊤
+OutOfSome end.WrongUsage input version old new = Keeps old new
+OutOfSome end.Help input version old new = ⊤
 OutOfSome end.OutOfMemory input version old new = Keeps old new ⊎ HoldsOfSomeNames (λ names rules. InfoWrites end.OutOfMemory names rules input old new)
 OutOfSome end input version old new =
     HoldsOfAny (λ line. OutBy end line input old new) (λ names rules. InfoWrites end names rules input old new) (VersionWrites end version old new)
 
 abbrev pub ErrOfSome : CommandEnd → Option (List ℕ) → Printed → Option (List ℕ) → Option (List ℕ) → Type 0
 ErrOfSome end.WrongUsage input printed old new = ⊤
+ErrOfSome end.Help input printed old new = Keeps old new
 ErrOfSome end.OutOfMemory input printed old new = Reports printed old new (codes "OutOfMemory")
 ErrOfSome end input printed old new =
     HoldsOfAny (λ line. ErrBy end line input printed old new) (λ names rules. InfoPrints end printed old new) (VersionPrints end printed old new)
@@ -126,10 +137,13 @@ ErrOfSome end input printed old new =
 abbrev pub PreparesNamed : Call → Type 0
 PreparesNamed call = HoldsOfAsked (texts_of call.words.now) PreparesNamedFile
 
--- words that are right for a command are wrong usage
-pub record RejectsRight (call : Call) (answer : Completion) : Type 0 where
-  pub wrong : answer.end ≡ end.WrongUsage
-  pub right : AreCommandWords (texts_of call.words.now)
+-- the words are right for a command, or clap accepts them, in whatever order, and what they give is right
+abbrev pub HasRightWords : Call → Type 0
+HasRightWords call = AreCommandWords (texts_of call.words.now) ⊎ AreAccepted (texts_of call.words.now)
+
+-- clap may answer the words with help
+abbrev pub CallsForHelp : Call → Type 0
+CallsForHelp call = AsksHelp (texts_of call.words.now)
 
 module _ {W : Type 0} where
   -- what a task, a command line, given words, or some words write to a writer with these contents

@@ -1,12 +1,12 @@
 -- When an output failed, and when it was flushed.
-use Rattle.std.specs.Prelude.{◌≡◌, ◌≢◌, ◌<◌, ℕ, Bool, OnErr, true}
+use Rattle.std.specs.Prelude.{◌≡◌, ◌≢◌, ◌<◌, ℕ, Bool, OnErr, true, ⊤}
 use Rattle.command_lines.specs.CommandLine.{texts_of}
 use Rattle.commands.specs.Lines.{HoldsOfAny, HoldsOfWords}
 use Rattle.commands.specs.declared.command_end.Completion.{Completion}
 use Rattle.commands.specs.declared.program.Call.{Call}
 use Rattle.commands.specs.declared.command_end.CommandEnd.TheVariants as end
 use Rattle.command_lines.specs.declared.asked.CommandLine.{CommandLine}
-use Rattle.command_lines.specs.declared.asked.CommandLine.TheVariants.{Prepare}
+use Rattle.command_lines.specs.declared.asked.CommandLine.TheVariants.{Check, List as ListLine, Prepare}
 
 module _ {W : Type 0} where
   -- a writer failed: its count of faults rose
@@ -23,12 +23,25 @@ module _ {W : Type 0} where
   OutputFlushed flushed old new (Prepare name rules width height output) = new ≡ old
   OutputFlushed flushed old new line = flushed new ≡ true
 
+  -- the output of a rejected check or listing was flushed after the last byte; no other rejected command writes to it
+  abbrev pub RejectedFlushed : (W → Bool) → W → CommandLine → Type 0
+  RejectedFlushed flushed new (Check name certificate) = flushed new ≡ true
+  RejectedFlushed flushed new (ListLine name rules) = flushed new ≡ true
+  RejectedFlushed flushed new line = ⊤
+
   -- the output of the command failed, or was flushed, for a command that the words ask for
   abbrev pub FailsAsked : Call → (W → ℕ) → W → W → Type 0
   FailsAsked call count old new = HoldsOfWords (texts_of call.words.now) (OutputFailed count old new) (λ names rules. Rises count old new) (Rises count old new)
 
   abbrev pub FlushesAsked : Call → (W → Bool) → W → W → Type 0
   FlushesAsked call flushed old new = HoldsOfWords (texts_of call.words.now) (OutputFlushed flushed old new) (λ names rules. flushed new ≡ true) (flushed new ≡ true)
+
+  -- the same if the file, or one of `info`, was rejected, and if a file wasn't read; the version is neither
+  abbrev pub FlushesRejected : Call → (W → Bool) → W → Type 0
+  FlushesRejected call flushed new = HoldsOfWords (texts_of call.words.now) (RejectedFlushed flushed new) (λ names rules. flushed new ≡ true) ⊥
+
+  abbrev pub FlushesUnread : Call → (W → Bool) → W → Type 0
+  FlushesUnread call flushed new = HoldsOfWords (texts_of call.words.now) (λ line. ⊤) (λ names rules. flushed new ≡ true) ⊥
 
   -- for some command
   abbrev pub FailsSome : (W → ℕ) → W → W → Type 0
@@ -37,7 +50,9 @@ module _ {W : Type 0} where
   abbrev pub FlushesSome : (W → Bool) → W → W → Type 0
   FlushesSome flushed old new = HoldsOfAny (OutputFlushed flushed old new) (λ names rules. flushed new ≡ true) (flushed new ≡ true)
 
-  -- unless the command ends with its usage, the message on standard error can be incomplete only because that writer
-  -- failed
+  abbrev pub FlushesSomeRejected : (W → Bool) → W → Type 0
+  FlushesSomeRejected flushed new = HoldsOfAny (RejectedFlushed flushed new) (λ names rules. flushed new ≡ true) ⊥
+
+  -- unless it is the help, the message can be incomplete only because standard error failed
   abbrev pub IsUnreported : Completion → (W → ℕ) → W → W → Type 0
-  IsUnreported answer count old new = answer.end ≢ end.WrongUsage → OnErr answer.printed (Rises count old new)
+  IsUnreported answer count old new = answer.end ≢ end.Help → OnErr answer.printed (Rises count old new)

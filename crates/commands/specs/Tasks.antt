@@ -13,15 +13,6 @@ pub data Task : Type 0 where
   over : List ℕ → List ℕ → List ℕ → Task
   list : Rules → List ℕ → Task
 
--- the metafile of a task
-abbrev pub file_in : Task → List ℕ
-file_in (show rules file width height) = file
-file_in (prepare rules file width height) = file
-file_in (check file certificate) = file
-file_in (play file certificate width height) = file
-file_in (over file certificate image) = file
-file_in (list rules file) = file
-
 -- the task of playing on the given surface
 abbrev pub asked_play : List ℕ → List ℕ → AskedSurface → Task
 asked_play file certificate asked = play file certificate asked.width asked.height

@@ -9,8 +9,12 @@ pub enum CommandEnd {
     Done,
     /// The file, the certificate, the image or the surface was rejected.
     Rejected,
-    /// The command line is wrong, or asks for help.
+    /// The command line is wrong.
     WrongUsage,
+    /// The command line asks for help.
+    Help,
+    /// The certificate would replace the metafile that it is prepared of.
+    OutIsFile,
     /// An input can't be read.
     CannotRead,
     /// An output can't be written.
@@ -42,14 +46,15 @@ impl CommandEnd {
         match self {
             CommandEnd::Done => 0,
             CommandEnd::Rejected => 1,
-            CommandEnd::WrongUsage => 2,
+            CommandEnd::WrongUsage | CommandEnd::Help | CommandEnd::OutIsFile => 2,
             CommandEnd::CannotRead | CommandEnd::CannotWrite => 3,
             CommandEnd::OutOfMemory => 4,
         }
     }
 }
 
-/// How a command ended, and whether its message on standard error was written in full.
+/// How a command ended, and whether its message was written in full: the help on standard output, or what is on standard
+/// error.
 #[derive(Clone, Copy, Debug, PartialEq, Eq)]
 pub struct Completion {
     pub end: CommandEnd,

@@ -1,8 +1,8 @@
 //! The command `info`.
 
-ghost use Rattle.std.specs.Prelude.{◌≡◌, ◌-◌, ◌^◌, ◌<◌, OnErr, true};
+ghost use Rattle.std.specs.Prelude.{◌≡◌, ◌-◌, ◌^◌, ◌<◌, OnErr};
 ghost use Rattle.command_lines.specs.InfoWords.{HasOneInput, names_in};
-ghost use Rattle.commands.specs.InfoLines.{InfoPrints, PrintsInfo, WritesInfo};
+ghost use Rattle.commands.specs.InfoLines.{FlushesInfo, InfoPrints, PrintsInfo, WritesInfo};
 
 use crate::command_end::{CommandEnd, Completion};
 use crate::file_line::file_line;
@@ -36,7 +36,7 @@ where
     ensures written { WritesInfo names.now rules (I.remaining input.old) result.end O.contents out.old out.new }
     ensures printed { PrintsInfo result.end result.printed E.contents err.old err.new }
     ensures cannot_write { result.end ≡ CommandEnd.CannotWrite → O.fault_count out.old < O.fault_count out.new }
-    ensures flushed { result.end ≡ CommandEnd.Done → O.is_flushed out.new ≡ true }
+    ensures flushed { FlushesInfo result.end O.is_flushed out.new }
     ensures unreported { OnErr result.printed (E.fault_count err.old < E.fault_count err.new) }
 {
     let end = send_lines(rt, rules, names, input, out);
@@ -56,7 +56,8 @@ fn report_end<E: FaultCount>(end: CommandEnd, err: &mut E) -> Result<(), WriteFa
         CommandEnd::CannotRead => report(err, "cannot read"),
         CommandEnd::CannotWrite => report(err, "cannot write"),
         CommandEnd::OutOfMemory => report(err, "OutOfMemory"),
-        CommandEnd::Done | CommandEnd::Rejected | CommandEnd::WrongUsage => Ok(()),
+        CommandEnd::Done | CommandEnd::Rejected => Ok(()),
+        CommandEnd::WrongUsage | CommandEnd::Help | CommandEnd::OutIsFile => Ok(()),
     }
 }
 
@@ -72,7 +73,7 @@ fn send_lines<R: Files + AllocGlobal, I: Read, O: FaultCount>(
     requires capacity { O.fault_count out.old < 2 ^ 64 - 1 }
     ensures written { WritesInfo names.now rules (I.remaining input.old) result O.contents out.old out.new }
     ensures fault { result ≡ CommandEnd.CannotWrite → O.fault_count out.old < O.fault_count out.new }
-    ensures flushed { result ≡ CommandEnd.Done → O.is_flushed out.new ≡ true }
+    ensures flushed { FlushesInfo result O.is_flushed out.new }
 {
     let mut end = CommandEnd::Done;
     for name in names {

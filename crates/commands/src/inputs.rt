@@ -1,8 +1,8 @@
 //! Reads the inputs of a command, in the order of the command line.
 
-ghost use Rattle.std.specs.Prelude.{◌≡◌, ◌≢◌, ◌≤◌, IfOk, vec_len};
+ghost use Rattle.std.specs.Prelude.{◌≡◌, ◌≢◌, ◌≤◌, IfOk, option_map, vec_len};
 ghost use Rattle.std.specs.Io.KnownBytes.{Keeps};
-ghost use Rattle.commands.specs.Inputs.{IsInput, standard_input};
+ghost use Rattle.commands.specs.Inputs.{IsInput, certificate_name, image_name, standard_input};
 ghost use Rattle.commands.specs.Reading.{input_limit};
 ghost use Rattle.command_lines.specs.Dimensions.{file_of};
 
@@ -72,7 +72,9 @@ fn file_of<'a>(line: CommandLine<'a>) -> &'a str
 }
 
 /// The name of the certificate on the command line, if there is one.
-fn certificate_of<'a>(line: CommandLine<'a>) -> Option<&'a str> {
+fn certificate_of<'a>(line: CommandLine<'a>) -> Option<&'a str>
+    ensures { option_map (λ name. name.now) result ≡ certificate_name line.entry }
+{
     match line {
         CommandLine::Check { certificate, .. } => Some(certificate),
         CommandLine::Play { certificate, .. } => Some(certificate),
@@ -82,7 +84,9 @@ fn certificate_of<'a>(line: CommandLine<'a>) -> Option<&'a str> {
 }
 
 /// The name of the image on the command line, if there is one.
-fn image_of<'a>(line: CommandLine<'a>) -> Option<&'a str> {
+fn image_of<'a>(line: CommandLine<'a>) -> Option<&'a str>
+    ensures { option_map (λ name. name.now) result ≡ image_name line.entry }
+{
     match line {
         CommandLine::Over { image, .. } => Some(image),
         CommandLine::Show { .. } | CommandLine::Prepare { .. } | CommandLine::List { .. } => None,

@@ -2,8 +2,11 @@
 //!
 //! # What is promised
 //!
-//! - The right words for a command are never wrong usage, unless they prepare a certificate into the metafile itself
-//!   (`run_words`).
+//! - The right words for a command, and words in any order that `clap` accepts and that give what is right, have the status
+//!   of wrong usage exactly if OUT is FILE. That is an answer of the system, for a certificate of a named file alone. The
+//!   end of the run has it (`run_words`).
+//! - Wrong usage writes nothing to standard output. Only help does, and it writes nothing to standard error (`run_words`,
+//!   `run`, `usage`). A run ends with help only if that is among what `clap` may answer its words with (`run_words`).
 //! - An input is read in full, or reading it fails (`read_input`).
 //! - One definition for all commands says what a command writes to its output and to standard error, by how it ends
 //!   (`show_command`, `prepare_command`, `check_command`, `play_command`, `over_command`, `list_command`, by `Writes`
@@ -29,8 +32,12 @@
 //! - If an output fails, a prefix of such a text was written. A command ends by `CannotWrite` only if its output
 //!   failed: the output counts its faults, and that count rose.
 //! - A command that is done has flushed its output after the last byte. So have `check` after the report of a
-//!   rejection, and `list` after records that break. A prepared certificate goes to its own file, and standard output
-//!   is unchanged (`run_words`, `run`).
+//!   rejection, `list` after records that break, and `info` unless its output failed or an allocation did. A prepared
+//!   certificate goes to its own file, and standard output is unchanged (`run_words`, `run`).
+//! - The program's `prepare` is done only after the whole certificate was appended to the file that was opened for it,
+//!   and that file was flushed. A new file was then written to the disk, and then renamed (`NamedOutput::store`, and
+//!   `prepare_to_file`, by `Stores`).
+//! - The number of rows in a band, if the program chooses it, is at most 8, or has at most 2^20 pixels (`band_rows`).
 //! - The whole program ends in the same ways, for some bytes of its inputs and for the sizes and files that the words
 //!   give (`run_words`, `run`). No status is above 4 (`CommandEnd::status`).
 //! - Standard error gets nothing if the work is done. Otherwise it gets one line with the reason, or a prefix of it if
@@ -50,6 +57,7 @@ mod input;
 mod inputs;
 mod list;
 mod output;
+mod output_path;
 mod over;
 mod play;
 mod playing;

@@ -1,6 +1,6 @@
 //! Plays a file whose certificate was accepted, on white in bands, and writes the image.
 
-ghost use Rattle.std.specs.Prelude.{◌≡◌, ◌-◌, ◌^◌, ◌<◌, ◌≤◌, IfErr, IfSome, OnOk, true};
+ghost use Rattle.std.specs.Prelude.{◌≡◌, ◌⊎◌, ◌-◌, ◌*◌, ◌^◌, ◌<◌, ◌≤◌, IfErr, IfNone, IfSome, OnOk, true};
 ghost use Rattle.commands.specs.ClearedFiles.{FailsToPlay, PlaysTo};
 
 use crate::failure::{Failure, failure_of};
@@ -54,6 +54,8 @@ pub(crate) struct AskedSurface {
 fn band_rows(asked: AskedSurface, cleared: &Cleared<'_>) -> u32
     requires { IfSome asked.bands (λ rows. 1 ≤ rows) }
     ensures some { 1 ≤ result }
+    ensures given { IfSome asked.bands (λ rows. result ≡ rows) }
+    ensures few { IfNone asked.bands (result ≤ 8 ⊎ result * asked.width ≤ 2 ^ 20) }
 {
     match asked.bands {
         Some(rows) => rows,

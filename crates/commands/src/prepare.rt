@@ -5,15 +5,17 @@ ghost use Rattle.draw_ops.specs.RuleSets.{core_rules};
 ghost use Rattle.mapping.specs.Limits.{IsSurfaceSide};
 ghost use Rattle.commands.specs.Ends.{Prints, Writes, WritesDone};
 ghost use Rattle.preflight_cert.specs.Reached.{Opens};
-ghost use Rattle.commands.specs.Failures.{FailsWith};
+ghost use Rattle.commands.specs.Failures.{FailsWith, IsReasonOf};
+ghost use Rattle.commands.specs.Stored.{Stores};
+ghost use Rattle.preflight_cert.specs.Preparation.{Prepares};
 ghost use Rattle.commands.specs.Tasks.{prepare};
 
 use crate::command_end::{CommandEnd, Completion};
 use crate::failure::{Failure, ending, failure_of};
 use crate::output::NamedOutput;
+use crate::output_path::OutputPath;
 use crate::preparing::prepare_file;
-use crate::reporting::report;
-use canvas::{Counting, FaultCount, send_finished};
+use canvas::{FaultCount, send_finished};
 use draw_ops::Rules;
 use std::alloc::Global;
 use std::rt::Files;
@@ -110,17 +112,41 @@ pub(crate) fn prepare_to_file<R: Files + AllocGlobal, E: FaultCount>(
     requires wide { IsSurfaceSide width }
     requires high { IsSurfaceSide height }
     requires capacity { E.fault_count err.old < 2 ^ 64 - 1 }
+    ensures stored { result.end ≡ CommandEnd.Done → Stores R.File.contents (Prepares rules file.now width height) }
     ensures printed { Prints (prepare rules file.now width height) result E.contents err.old err.new }
     ensures unreported { OnErr result.printed (E.fault_count err.old < E.fault_count err.new) }
 {
-    let Ok(output) = NamedOutput::new(rt, name) else {
-        return Completion {
-            end: CommandEnd::OutOfMemory,
-            printed: report(err, "OutOfMemory"),
-        };
+    let stored = store_prepared(rt, rules, file, width, height, name);
+    ending(stored, err)
+}
+
+/// Prepares a file's certificate, and stores it in the file of this name, which is touched only then.
+fn store_prepared<R: Files + AllocGlobal>(
+    rt: &R,
+    rules: Rules,
+    file: &[u8],
+    width: u32,
+    height: u32,
+    name: &str,
+) -> Result<(), Failure>
+    requires wide { IsSurfaceSide width }
+    requires high { IsSurfaceSide height }
+    ensures stored { OnOk result (Stores R.File.contents (Prepares rules file.now width height)) }
+    ensures failed { IfErr result (IsReasonOf (prepare rules file.now width height)) }
+{
+    let Ok(path) = OutputPath::new(rt, name) else {
+        return Err(Failure::OutOfMemory);
     };
-    let mut output = Counting::new(output);
-    let answer = prepare_command_by(rt.alloc(), rules, file, width, height, &mut output, err);
-    output.into_writer().remove_unfinished();
-    answer
+    let prepared = match prepare_file(rt.alloc(), rules, file, width, height) {
+        Ok(prepared) => prepared,
+        Err(refusal) => return Err(failure_of(refusal)),
+    };
+    match NamedOutput::open(rt, path) {
+        Ok(mut output) => {
+            let stored = output.store(prepared.text.as_slice());
+            output.remove_unfinished();
+            stored.map_err(|_| Failure::CannotWrite)
+        }
+        Err(_) => Err(Failure::CannotWrite),
+    }
 }

@@ -1,12 +1,14 @@
 //! The program: the command line, its inputs, and the command.
 
-ghost use Rattle.std.specs.Prelude.{◌≡◌, ◌≢◌, ◌⊎◌, ◌↔◌, ◌-◌, ◌^◌, ◌<◌, OnErr, codes};
+ghost use Rattle.std.specs.Prelude.{◌≡◌, ◌≢◌, ◌↔◌, ◌-◌, ◌^◌, ◌<◌, OnErr, codes, true};
 ghost use Rattle.std.specs.Io.KnownBytes.{Keeps};
 ghost use Rattle.clap.specs.Words.{kind_of};
-ghost use Rattle.commands.specs.Outputs.{FailsAsked, FailsSome, FlushesAsked, FlushesSome, IsUnreported, OutputFailed, OutputFlushed, Rises};
-ghost use Rattle.commands.specs.Faults.{input_end, fault_text};
+ghost use Rattle.commands.specs.Outputs.{FailsAsked, FailsSome, IsUnreported, OutputFailed, Rises};
+ghost use Rattle.commands.specs.Outputs.{FlushesAsked, FlushesRejected, FlushesSome, FlushesSomeRejected, FlushesUnread, OutputFlushed, RejectedFlushed};
+ghost use Rattle.commands.specs.Statuses.{status_of};
+ghost use Rattle.commands.specs.Faults.{IsUsageEnd, input_end, fault_text};
 ghost use Rattle.commands.specs.Lines.{TaskPrints, TaskWrites, PrintsAsked, PrintsLine, PrintsMemory, PrintsSome};
-ghost use Rattle.commands.specs.Lines.{PreparesNamed, RejectsRight, ReportsSameFile};
+ghost use Rattle.commands.specs.Lines.{CallsForHelp, HasRightWords, PreparesNamed, PreparesNamedFile, ReportsSameFile};
 ghost use Rattle.commands.specs.Inputs.{standard_input};
 ghost use Rattle.commands.specs.Lines.{WritesAsked, WritesLine, WritesSome};
 ghost use Rattle.commands.specs.Report.{Reports};
@@ -23,7 +25,7 @@ use crate::over::over_command;
 use crate::play::play_command;
 use crate::prepare::prepare_to_file;
 use crate::reporting::report;
-use crate::same_file::replaces_its_file;
+use crate::same_file::{ComparedLine, compared};
 use crate::show::show_command_by;
 use crate::shown::show_error;
 use crate::version::version_command;
@@ -56,11 +58,12 @@ where
     requires capacity_err { E.fault_count err.old < 2 ^ 64 - 1 }
     ensures written { WritesSome (I.remaining input.old) version.now result O.contents out.old out.new }
     ensures printed { PrintsSome (I.remaining input.old) result E.contents err.old err.new }
-    ensures usage_unread { result.end ≡ CommandEnd.WrongUsage → Keeps (I.remaining input.old) (I.remaining input.new) }
+    ensures usage_unread { status_of result.end ≡ 2 → Keeps (I.remaining input.old) (I.remaining input.new) }
     ensures cannot_write { result.end ≡ CommandEnd.CannotWrite → FailsSome O.fault_count out.old out.new }
     ensures flushed { result.end ≡ CommandEnd.Done → FlushesSome O.is_flushed out.old out.new }
+    ensures rejected { result.end ≡ CommandEnd.Rejected → FlushesSomeRejected O.is_flushed out.new }
     ensures unreported { IsUnreported result E.fault_count err.old err.new }
-    ensures unshown { OnErr result.printed (Rises E.fault_count err.old err.new ⊎ Rises O.fault_count out.old out.new) }
+    ensures unshown { result.end ≡ CommandEnd.Help → OnErr result.printed (Rises O.fault_count out.old out.new) }
 {
     match words(rt) {
         Ok(words) => {
@@ -95,17 +98,21 @@ where
     requires capacity_err { E.fault_count err.old < 2 ^ 64 - 1 }
     ensures written { WritesAsked call.entry (I.remaining input.old) result O.contents out.old out.new }
     ensures printed { PrintsAsked call.entry (I.remaining input.old) result E.contents err.old err.new }
-    ensures usage_words { RejectsRight call.entry result → PreparesNamed call.entry }
-    ensures usage_wrong { RejectsRight call.entry result → ReportsSameFile result E.contents err.old err.new }
-    ensures usage_unwritten { RejectsRight call.entry result → Keeps (O.contents out.old) (O.contents out.new) }
-    ensures usage_unread { result.end ≡ CommandEnd.WrongUsage → Keeps (I.remaining input.old) (I.remaining input.new) }
+    ensures right { HasRightWords call.entry → (status_of result.end ≡ 2 ↔ result.end ≡ CommandEnd.OutIsFile) }
+    ensures same_words { result.end ≡ CommandEnd.OutIsFile → PreparesNamed call.entry }
+    ensures same_reported { result.end ≡ CommandEnd.OutIsFile → ReportsSameFile result E.contents err.old err.new }
+    ensures same_unwritten { result.end ≡ CommandEnd.OutIsFile → Keeps (O.contents out.old) (O.contents out.new) }
+    ensures help { result.end ≡ CommandEnd.Help → CallsForHelp call.entry }
+    ensures usage_unread { status_of result.end ≡ 2 → Keeps (I.remaining input.old) (I.remaining input.new) }
     ensures cannot_write { result.end ≡ CommandEnd.CannotWrite → FailsAsked call.entry O.fault_count out.old out.new }
     ensures flushed { result.end ≡ CommandEnd.Done → FlushesAsked call.entry O.is_flushed out.old out.new }
+    ensures rejected { result.end ≡ CommandEnd.Rejected → FlushesRejected call.entry O.is_flushed out.new }
+    ensures unread { result.end ≡ CommandEnd.CannotRead → FlushesUnread call.entry O.is_flushed out.new }
     ensures unreported { IsUnreported result E.fault_count err.old err.new }
-    ensures unshown { OnErr result.printed (Rises E.fault_count err.old err.new ⊎ Rises O.fault_count out.old out.new) }
+    ensures unshown { result.end ≡ CommandEnd.Help → OnErr result.printed (Rises O.fault_count out.old out.new) }
 {
     match line(rt.alloc(), call.words) {
-        Ok(Asked::Command(line)) => perform(rt, line, input, out, err),
+        Ok(Asked::Command(line)) => perform(rt, compared(rt, line), input, out, err),
         Ok(Asked::Info { names, rules }) => {
             info_command(rt, rules, names.as_slice(), input, out, err)
         }
@@ -114,10 +121,10 @@ where
     }
 }
 
-/// Reads the inputs of a command line, and runs its command.
+/// Reads the inputs of a command line, and runs its command, unless OUT is FILE.
 fn perform<R, I, O, E>(
     rt: &R,
-    line: CommandLine<'_>,
+    asked: ComparedLine<'_>,
     input: &mut I,
     out: &mut O,
     err: &mut E,
@@ -127,21 +134,24 @@ where
     I: Read,
     O: FaultCount,
     E: FaultCount,
-    requires dimensions { HasDimensions line }
+    requires dimensions { HasDimensions asked.line }
+    requires named { asked.out_is_file ≡ true → PreparesNamedFile asked.line }
     requires capacity_out { O.fault_count out.old < 2 ^ 64 - 1 }
     requires capacity_err { E.fault_count err.old < 2 ^ 64 - 1 }
-    ensures written { WritesLine line.entry (I.remaining input.old) result O.contents out.old out.new }
-    ensures printed { PrintsLine line.entry (I.remaining input.old) result E.contents err.old err.new }
-    ensures unread { file_of line.entry ≢ standard_input → Keeps (I.remaining input.old) (I.remaining input.new) }
-    ensures cannot_write { result.end ≡ CommandEnd.CannotWrite → OutputFailed O.fault_count out.old out.new line.entry }
-    ensures flushed { result.end ≡ CommandEnd.Done → OutputFlushed O.is_flushed out.old out.new line.entry }
+    ensures same { result.end ≡ CommandEnd.OutIsFile ↔ asked.entry.out_is_file ≡ true }
+    ensures written { WritesLine asked.entry.line (I.remaining input.old) result O.contents out.old out.new }
+    ensures printed { PrintsLine asked.entry.line (I.remaining input.old) result E.contents err.old err.new }
+    ensures unread { file_of asked.entry.line ≢ standard_input → Keeps (I.remaining input.old) (I.remaining input.new) }
+    ensures failed { result.end ≡ CommandEnd.CannotWrite → OutputFailed O.fault_count out.old out.new asked.entry.line }
+    ensures flushed { result.end ≡ CommandEnd.Done → OutputFlushed O.is_flushed out.old out.new asked.entry.line }
+    ensures rejected { result.end ≡ CommandEnd.Rejected → RejectedFlushed O.is_flushed out.new asked.entry.line }
     ensures unreported { OnErr result.printed (E.fault_count err.old < E.fault_count err.new) }
 {
-    if replaces_its_file(rt, line) {
+    if asked.out_is_file {
         return same_file(err);
     }
-    match read_inputs(rt, line, input) {
-        Ok(inputs) => run_task(rt, line, &inputs, out, err),
+    match read_inputs(rt, asked.line, input) {
+        Ok(inputs) => run_task(rt, asked.line, &inputs, out, err),
         Err(fault) => no_input(fault, err),
     }
 }
@@ -149,12 +159,12 @@ where
 /// Reports that OUT is FILE.
 fn same_file<E: FaultCount>(err: &mut E) -> Completion
     requires capacity { E.fault_count err.old < 2 ^ 64 - 1 }
-    ensures end { result.end ≡ CommandEnd.WrongUsage }
+    ensures end { result.end ≡ CommandEnd.OutIsFile }
     ensures line { Reports result.printed (E.contents err.old) (E.contents err.new) (codes "OUT is FILE") }
     ensures unreported { OnErr result.printed (E.fault_count err.old < E.fault_count err.new) }
 {
     Completion {
-        end: CommandEnd::WrongUsage,
+        end: CommandEnd::OutIsFile,
         printed: report(err, "OUT is FILE"),
     }
 }
@@ -175,6 +185,7 @@ fn run_task<R: Files + AllocGlobal, O: FaultCount, E: FaultCount>(
     ensures printed { TaskPrints line.entry inputs.now result E.contents err.old err.new }
     ensures cannot_write { result.end ≡ CommandEnd.CannotWrite → OutputFailed O.fault_count out.old out.new line.entry }
     ensures flushed { result.end ≡ CommandEnd.Done → OutputFlushed O.is_flushed out.old out.new line.entry }
+    ensures rejected { result.end ≡ CommandEnd.Rejected → RejectedFlushed O.is_flushed out.new line.entry }
     ensures unreported { OnErr result.printed (E.fault_count err.old < E.fault_count err.new) }
 {
     let (file, certificate) = (inputs.file.as_slice(), inputs.certificate.as_slice());
@@ -237,8 +248,8 @@ pub fn no_input<E: FaultCount>(fault: InputFault, err: &mut E) -> Completion
     }
 }
 
-/// Shows the usage, or help if it was asked for, on the stream that `clap` chooses, and returns whether that writer
-/// failed.
+/// Shows help on standard output if it was asked for, and otherwise what is wrong on standard error. Returns whether that
+/// writer failed.
 pub fn usage<O: FaultCount, E: FaultCount>(
     error: &clap::Error,
     out: &mut O,
@@ -247,22 +258,25 @@ pub fn usage<O: FaultCount, E: FaultCount>(
     requires capacity_out { O.fault_count out.old < 2 ^ 64 - 1 }
     requires capacity_err { E.fault_count err.old < 2 ^ 64 - 1 }
     ensures memory { result.end ≡ CommandEnd.OutOfMemory ↔ kind_of error.now ≡ ErrorKind.OutOfMemory }
-    ensures ends { (result.end ≡ CommandEnd.WrongUsage) ⊎ (result.end ≡ CommandEnd.OutOfMemory) }
-    ensures unwritten { result.end ≡ CommandEnd.OutOfMemory → Keeps (O.contents out.old) (O.contents out.new) }
+    ensures help { result.end ≡ CommandEnd.Help ↔ kind_of error.now ≡ ErrorKind.DisplayHelp }
+    ensures ends { IsUsageEnd result.end }
+    ensures unwritten { result.end ≢ CommandEnd.Help → Keeps (O.contents out.old) (O.contents out.new) }
+    ensures unprinted { result.end ≡ CommandEnd.Help → Keeps (E.contents err.old) (E.contents err.new) }
     ensures line { result.end ≡ CommandEnd.OutOfMemory → PrintsMemory result E.contents err.old err.new }
     ensures unreported { IsUnreported result E.fault_count err.old err.new }
-    ensures unshown { OnErr result.printed (Rises E.fault_count err.old err.new ⊎ Rises O.fault_count out.old out.new) }
+    ensures unshown { result.end ≡ CommandEnd.Help → OnErr result.printed (Rises O.fault_count out.old out.new) }
 {
     if error.kind() == ErrorKind::OutOfMemory {
         return no_input(InputFault::OutOfMemory, err);
     }
-    let printed = if error.use_stderr() {
-        show_error(error, err)
-    } else {
-        show_error(error, out)
-    };
+    if error.kind() == ErrorKind::DisplayHelp {
+        return Completion {
+            end: CommandEnd::Help,
+            printed: show_error(error, out),
+        };
+    }
     Completion {
         end: CommandEnd::WrongUsage,
-        printed,
+        printed: show_error(error, err),
     }
 }

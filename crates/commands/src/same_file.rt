@@ -8,14 +8,23 @@ use std::fs;
 use std::os::unix::fs::MetadataExt;
 use std::rt::Files;
 
-/// Whether OUT is FILE. Standard input has no name, so it is never that.
-pub(crate) fn replaces_its_file<R: Files>(rt: &R, line: CommandLine<'_>) -> bool
-    ensures { result ≡ true → PreparesNamedFile line.entry }
+/// A command line, with the answer to whether OUT is FILE.
+#[derive(Clone, Copy)]
+pub(crate) struct ComparedLine<'a> {
+    pub(crate) line: CommandLine<'a>,
+    pub(crate) out_is_file: bool,
+}
+
+/// Looks whether OUT is FILE. Standard input has no name, so it is never that.
+pub(crate) fn compared<'a, R: Files>(rt: &R, line: CommandLine<'a>) -> ComparedLine<'a>
+    ensures line { result.line ≡ line.entry }
+    ensures named { result.out_is_file ≡ true → PreparesNamedFile result.line }
 {
-    match prepared_names(line) {
+    let out_is_file = match prepared_names(line) {
         Some((file, output)) => are_of_one_file(rt, file, output),
         None => false,
-    }
+    };
+    ComparedLine { line, out_is_file }
 }
 
 /// The names of the metafile and of the certificate that is prepared of it, if the metafile has a name.

@@ -2,23 +2,23 @@
 use Rattle.std.proofs.Common.{◌≡◌, ◌∙◌, ◌||◌, if◌then◌else◌, ℕ, Bool, true, false, List, [], ◌∷◌, ◌++◌, Option, Some, None, ℤ, pos, negsuc, drop, codes, refl, sym, ap}
 use Rattle.std.proofs.lemmas.List.{append_assoc}
 use Rattle.serde_json.specs.Data.{Data, Items, Members, array, boolean, member, no_members, null, object, put, string}
-use Rattle.serde_json.specs.Written.{compact_text, has_float, items_text, members_have_float, members_text}
+use Rattle.serde_json.specs.Written.{comma_if, compact_text, has_float, items_text, members_have_float, members_text}
 use Rattle.mapping.specs.declared.geometry.Rect.{Rect}
 use Rattle.draw_ops.specs.RuleSets.{is_print}
 use Rattle.meta_headers.specs.declared.opened.FileFormat.{FileFormat}
 use Rattle.report_parts.specs.Parts.{notes_data, report_text, whole_if}
 use Rattle.report_parts.specs.Whole.{if_whole, notes_whole, profile_whole, put_whole}
 use Rattle.file_info.specs.Info.{is_playing}
-use Rattle.file_info.specs.InfoReport.{box_data, counted_items, dots_data, drawings_if, emf_frame_if, fault_if, first_members, format_data, frame_data, info_line, joined, kind_if, last_members, objects_if, paper_if, record_if, records_data, size_data, text_if, uses_if}
-use Rattle.file_info.specs.JoinedText.{PutsFaults, faults_text, open_text}
+use Rattle.file_info.specs.InfoReport.{axes_data, box_data, counted_items, dots_if, drawings_if, emf_frame_if, fault_if, first_members, format_data, frame_data, info_line, joined, kind_if, last_members, objects_if, paper_if, record_if, records_data, text_if, uses_if}
+use Rattle.file_info.specs.JoinedText.{PutsFaults, faults_text}
 use Rattle.file_info.specs.declared.info.FileInfo.{FileInfo}
-use Rattle.file_info.specs.declared.paper.Paper.{Paper}
+use Rattle.file_info.specs.declared.paper.Axes.{Axes}
 use Rattle.file_info.specs.declared.paper.Sizes.{Sizes}
 
 -- the first and the last members of the core profile
 abbrev plain_first : FileInfo → Members
 plain_first info =
-    put (codes "dots_per_inch") (dots_data (paper_if info.sizes))
+    put (codes "dots_per_inch") (axes_data (dots_if info.sizes))
     (put (codes "drawings") (whole_if (drawings_if info.playing))
     (put (codes "emf_frame") (box_data (emf_frame_if info.sizes))
     (put (codes "error") null
@@ -35,12 +35,17 @@ plain_last name info =
     (put (codes "plays") (boolean (is_playing info.playing))
     (put (codes "record") (whole_if (record_if info.playing))
     (put (codes "records") (records_data info.format info.totals.records)
-    (put (codes "size") (size_data (paper_if info.sizes)) no_members)))))))))
+    (put (codes "size") (axes_data (paper_if info.sizes)) no_members)))))))))
 
 -- whether there is a member
 abbrev starts : Members → Bool
 starts no_members = false
 starts (member name value more) = true
+
+-- the text of members without the brace after them
+abbrev open_text : Bool → Members → List ℕ
+open_text later no_members = []
+open_text later (member name value members) = comma_if later ++ (compact_text (string name) ++ 58 ∷ (compact_text value ++ open_text true members))
 
 -- the text of members is the open one and a brace
 pub closed : (later : Bool) (members : Members) → members_text later members ≡ open_text later members ++ 125 ∷ []
@@ -119,14 +124,14 @@ frame_whole : (sizes : Option Sizes) → has_float (frame_data sizes) ≡ false
 frame_whole None = refl
 frame_whole (Some sizes) = refl
 
-size_whole : (paper : Option Paper) → has_float (size_data paper) ≡ false
-size_whole None = refl
-size_whole (Some paper) = refl
+axes_whole : (axes : Option Axes) → has_float (axes_data axes) ≡ false
+axes_whole None = refl
+axes_whole (Some axes) = refl
 
 pub last_whole : (name : List ℕ) (info : FileInfo) → has_float (object (last_members name info)) ≡ false
 last_whole name info =
-    let m0 = put (codes "size") (size_data (paper_if info.sizes)) no_members in
-    let e0 : members_have_float m0 ≡ false = put_whole (codes "size") (size_data (paper_if info.sizes)) no_members (size_whole (paper_if info.sizes)) refl in
+    let m0 = put (codes "size") (axes_data (paper_if info.sizes)) no_members in
+    let e0 : members_have_float m0 ≡ false = put_whole (codes "size") (axes_data (paper_if info.sizes)) no_members (axes_whole (paper_if info.sizes)) refl in
     let m1 = put (codes "records") (records_data info.format info.totals.records) m0 in
     let e1 : members_have_float m1 ≡ false = put_whole (codes "records") (records_data info.format info.totals.records) m0 (records_whole info.format info.totals.records) e0 in
     let m2 = put (codes "record") (whole_if (record_if info.playing)) m1 in

@@ -16,7 +16,7 @@ use Rattle.preflight_cert.specs.Preparation.{Prepares}
 use Rattle.preflight_cert.specs.Run.{Rejected}
 use Rattle.preflight_cert.specs.declared.uses.Uses.{Uses}
 use Rattle.file_info.specs.Counting.{HasTotals}
-use Rattle.file_info.specs.Paper.{emf_frame_in, paper_in}
+use Rattle.file_info.specs.Paper.{dots_in, emf_frame_in, paper_in}
 use Rattle.file_info.specs.Totals.{totals_of}
 use Rattle.file_info.specs.declared.info.FileInfo.{FileInfo}
 use Rattle.file_info.specs.declared.paper.Sizes.{Sizes}
@@ -28,6 +28,7 @@ abbrev pub sizes_of : List ℕ → OpenedValue → Sizes
 sizes_of file o = record {
   frame_width = o.frame_width;
   frame_height = o.frame_height;
+  dots = dots_in o.format file;
   paper = paper_in o.format file o.frame_width o.frame_height;
   emf_frame = emf_frame_in o.format file;
 }

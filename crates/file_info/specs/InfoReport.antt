@@ -12,7 +12,7 @@ use Rattle.report_parts.specs.Profile.{uses_data, with_allowed, with_profile}
 use Rattle.file_info.specs.Info.{is_playing}
 use Rattle.file_info.specs.declared.fault_count.FaultCount.{FaultCount}
 use Rattle.file_info.specs.declared.info.FileInfo.{FileInfo}
-use Rattle.file_info.specs.declared.paper.Paper.{Paper}
+use Rattle.file_info.specs.declared.paper.Axes.{Axes}
 use Rattle.file_info.specs.declared.paper.Sizes.{Sizes}
 use Rattle.file_info.specs.declared.playing.Playing.{Playing}
 use Rattle.file_info.specs.declared.playing.Playing.TheVariants.{Plays, Stops}
@@ -42,15 +42,10 @@ abbrev pub frame_data : Option Sizes → Data
 frame_data None = null
 frame_data (Some sizes) = pair sizes.frame_width sizes.frame_height
 
--- dots per inch on both axes, or null if they aren't known
-abbrev pub dots_data : Option Paper → Data
-dots_data None = null
-dots_data (Some paper) = pair paper.dots_x paper.dots_y
-
--- a width and a height in hundredths of a millimetre, or null if they aren't known
-abbrev pub size_data : Option Paper → Data
-size_data None = null
-size_data (Some paper) = pair paper.width paper.height
+-- the numbers of both axes, or null if they aren't known
+abbrev pub axes_data : Option Axes → Data
+axes_data None = null
+axes_data (Some axes) = pair axes.x axes.y
 
 -- left, top, right and bottom of a box
 abbrev pub edges_data : Rect → Data
@@ -62,7 +57,11 @@ box_data None = null
 box_data (Some box) = edges_data box
 
 -- a part of the sizes, if they are known
-abbrev pub paper_if : Option Sizes → Option Paper
+abbrev pub dots_if : Option Sizes → Option Axes
+dots_if None = None
+dots_if (Some sizes) = sizes.dots
+
+abbrev pub paper_if : Option Sizes → Option Axes
 paper_if None = None
 paper_if (Some sizes) = sizes.paper
 
@@ -118,7 +117,7 @@ joined (member name value members) others = member name value (joined members ot
 abbrev pub first_members : FileInfo → Members
 first_members info =
     with_allowed info.rules (uses_if info.playing)
-    (put (codes "dots_per_inch") (dots_data (paper_if info.sizes))
+    (put (codes "dots_per_inch") (axes_data (dots_if info.sizes))
     (put (codes "drawings") (whole_if (drawings_if info.playing))
     (put (codes "emf_frame") (box_data (emf_frame_if info.sizes))
     (put (codes "error") null
@@ -142,7 +141,7 @@ last_members name info =
     (put (codes "notes") (notes_data info.totals.notes.counts)
     (with_playing info.playing
     (put (codes "records") (records_data info.format info.totals.records)
-    (put (codes "size") (size_data (paper_if info.sizes)) no_members)))))))
+    (put (codes "size") (axes_data (paper_if info.sizes)) no_members)))))))
 
 -- the report about the file with this name
 abbrev pub info_data : List ℕ → FileInfo → Data

@@ -1,14 +1,9 @@
--- The text of an object in pieces.
-use Rattle.std.specs.Prelude.{◌≡◌, ℕ, Bool, true, false, List, [], ◌∷◌, ◌++◌, codes}
-use Rattle.serde_json.specs.Data.{Items, Members, member, no_members, string}
+-- The text of the member `faults` in an object.
+use Rattle.std.specs.Prelude.{◌≡◌, ℕ, Bool, false, List, [], ◌∷◌, ◌++◌, codes}
+use Rattle.serde_json.specs.Data.{Items, string}
 use Rattle.file_info.specs.InfoReport.{counted_data}
 use Rattle.file_info.specs.declared.fault_count.FaultCount.{FaultCount}
-use Rattle.serde_json.specs.Written.{comma_if, compact_text, items_text, members_text}
-
--- the text of members without the brace after them
-abbrev pub open_text : Bool → Members → List ℕ
-open_text later no_members = []
-open_text later (member name value members) = comma_if later ++ (compact_text (string name) ++ 58 ∷ (compact_text value ++ open_text true members))
+use Rattle.serde_json.specs.Written.{comma_if, compact_text, items_text}
 
 -- a comma, the name `faults`, and the beginning of a list
 abbrev pub faults_head : List ℕ

@@ -12,7 +12,7 @@ use crate::counted_text::put_counted;
 use crate::fault_counts::FaultCounts;
 use crate::info::FileInfo;
 use crate::info_values::{
-    box_value, dots_value, format_value, frame_value, paper_of, records_value, size_value,
+    axes_value, box_value, dots_of, format_value, frame_value, paper_of, records_value,
 };
 use crate::playing::Playing;
 use crate::playing_values::{
@@ -43,7 +43,7 @@ pub fn info_text(alloc: Global, name: &str, info: &FileInfo) -> Result<Vec<u8>, 
 fn first_value(alloc: Global, info: &FileInfo) -> Result<Value, AllocError>
     ensures { IfOk result (λ value. view value ≡ object (first_members info.now)) }
 {
-    let dots = dots_value(alloc, paper_of(info.sizes))?;
+    let dots = axes_value(alloc, dots_of(info.sizes))?;
     let frame = box_value(alloc, info.sizes)?;
     let fault = fault_value(alloc, info.playing)?;
     let uses = allowed_value(alloc, info.playing)?;
@@ -66,7 +66,7 @@ fn first_value(alloc: Global, info: &FileInfo) -> Result<Value, AllocError>
 fn last_value(alloc: Global, name: &str, info: &FileInfo) -> Result<Value, AllocError>
     ensures { IfOk result (λ value. view value ≡ object (last_members name.now info.now)) }
 {
-    let size = size_value(alloc, paper_of(info.sizes))?;
+    let size = axes_value(alloc, paper_of(info.sizes))?;
     let notes = notes_value(alloc, info.totals.notes)?;
     let frame = frame_value(alloc, info.sizes)?;
     let format = format_value(alloc, info.format)?;

@@ -2,9 +2,9 @@
 
 ghost use Rattle.std.specs.Prelude.{◌≡◌, IfOk};
 ghost use Rattle.serde_json.specs.View.{view};
-ghost use Rattle.file_info.specs.InfoReport.{box_data, dots_data, edges_data, emf_frame_if, format_data, frame_data, paper_if, records_data, size_data};
+ghost use Rattle.file_info.specs.InfoReport.{axes_data, box_data, dots_if, edges_data, emf_frame_if, format_data, frame_data, paper_if, records_data};
 
-use crate::paper::{Paper, Sizes};
+use crate::paper::{Axes, Sizes};
 use mapping::Rect;
 use meta_headers::FileFormat;
 use report_parts::pair_value;
@@ -31,8 +31,18 @@ pub(crate) fn records_value(format: Option<FileFormat>, records: u32) -> Value
     }
 }
 
+/// Dots per inch, if they are known.
+pub(crate) fn dots_of(sizes: Option<Sizes>) -> Option<Axes>
+    ensures { result ≡ dots_if sizes }
+{
+    match sizes {
+        Some(sizes) => sizes.dots,
+        None => None,
+    }
+}
+
 /// The size on paper, if it is known.
-pub(crate) fn paper_of(sizes: Option<Sizes>) -> Option<Paper>
+pub(crate) fn paper_of(sizes: Option<Sizes>) -> Option<Axes>
     ensures { result ≡ paper_if sizes }
 {
     match sizes {
@@ -51,22 +61,12 @@ pub(crate) fn frame_value(alloc: Global, sizes: Option<Sizes>) -> Result<Value, 
     }
 }
 
-/// Dots per inch on both axes, or null if they aren't known.
-pub(crate) fn dots_value(alloc: Global, paper: Option<Paper>) -> Result<Value, AllocError>
-    ensures { IfOk result (λ value. view value ≡ dots_data paper) }
+/// The numbers of both axes, or null if they aren't known.
+pub(crate) fn axes_value(alloc: Global, axes: Option<Axes>) -> Result<Value, AllocError>
+    ensures { IfOk result (λ value. view value ≡ axes_data axes) }
 {
-    match paper {
-        Some(paper) => pair_value(alloc, paper.dots_x, paper.dots_y),
-        None => Ok(Value::Null),
-    }
-}
-
-/// The width and the height on paper in hundredths of a millimetre, or null if they aren't known.
-pub(crate) fn size_value(alloc: Global, paper: Option<Paper>) -> Result<Value, AllocError>
-    ensures { IfOk result (λ value. view value ≡ size_data paper) }
-{
-    match paper {
-        Some(paper) => pair_value(alloc, paper.width, paper.height),
+    match axes {
+        Some(axes) => pair_value(alloc, axes.x, axes.y),
         None => Ok(Value::Null),
     }
 }

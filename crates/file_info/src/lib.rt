@@ -32,6 +32,6 @@ pub use fault_counts::FaultCounts;
 pub use gathering::file_info;
 pub use info::FileInfo;
 pub use info_report::{info_text, unread_text};
-pub use paper::{Paper, Sizes};
+pub use paper::{Axes, Sizes};
 pub use playing::Playing;
 pub use totals::Totals;

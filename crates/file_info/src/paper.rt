@@ -2,17 +2,13 @@
 
 use mapping::Rect;
 
-/// The size of a file's frame on paper.
+/// A number of the horizontal axis, and one of the vertical axis.
 #[derive(Clone, Copy, Debug, PartialEq, Eq)]
-pub struct Paper {
-    /// Dots per inch, from left to right.
-    pub dots_x: u32,
-    /// Dots per inch, from top to bottom.
-    pub dots_y: u32,
-    /// The width in hundredths of a millimetre.
-    pub width: u32,
-    /// The height in hundredths of a millimetre.
-    pub height: u32,
+pub struct Axes {
+    /// The number of the horizontal axis.
+    pub x: u32,
+    /// The number of the vertical axis.
+    pub y: u32,
 }
 
 /// The sizes that a file's headers give.
@@ -22,8 +18,11 @@ pub struct Sizes {
     pub frame_width: u32,
     /// The frame's height in units of the plane.
     pub frame_height: u32,
-    /// The frame's size on paper, if the headers give it.
-    pub paper: Option<Paper>,
+    /// Dots per inch, if the headers give them, and they have at most 32 bits.
+    pub dots: Option<Axes>,
+    /// The frame's width and height in hundredths of a millimetre, if the headers give them, and they have at most 32
+    /// bits.
+    pub paper: Option<Axes>,
     /// Frame in the header of an EMF file, in hundredths of a millimetre ([MS-EMF] 2.2.9).
     pub emf_frame: Option<Rect>,
 }

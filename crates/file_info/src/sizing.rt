@@ -4,10 +4,10 @@ ghost use Rattle.std.specs.Prelude.{◌≡◌, ◌≤◌, ◌<◌, ◌^◌, ◌*
 ghost use Rattle.meta_headers.specs.OpenedOf.{opened_of};
 ghost use Rattle.point_views.specs.Numbers.{number_at};
 ghost use Rattle.file_info.specs.Info.{sizes_of};
-ghost use Rattle.file_info.specs.Paper.{dots_per_inch, emf_frame, emf_frame_in, emf_paper, has_device, has_inch, has_no_zero, is_given, length_of_pixels};
-ghost use Rattle.file_info.specs.Paper.{is_short, length_of_units, paper_in, placeable_paper, short_paper};
+ghost use Rattle.file_info.specs.Paper.{dots_in, dots_per_inch, emf_frame, emf_frame_in, has_device, has_inch, has_no_zero, is_given};
+ghost use Rattle.file_info.specs.Paper.{is_short, length_of_pixels, length_of_units, paper_in, short_axes};
 
-use crate::paper::{Paper, Sizes};
+use crate::paper::{Axes, Sizes};
 use mapping::Rect;
 use meta_headers::{FileFormat, Opened};
 use point_views::{i32_at, u16_at, u32_at};
@@ -27,13 +27,51 @@ pub(crate) fn sizes(file: &[u8], opened: &Opened<'_>) -> Sizes
     Sizes {
         frame_width: width,
         frame_height: height,
+        dots: dots_in(opened.format, file),
         paper: paper_in(opened.format, file, width, height),
         emf_frame: emf_frame_in(opened.format, file),
     }
 }
 
+/// The dots per inch that the headers give.
+fn dots_in(format: FileFormat, file: &[u8]) -> Option<Axes>
+    ensures { result ≡ dots_in format file.now }
+{
+    match format {
+        FileFormat::Placeable => dots_of_placeable(file),
+        FileFormat::Plain => None,
+        FileFormat::Emf => dots_of_emf(file),
+    }
+}
+
+/// The dots per inch of a placeable file, by Inch.
+fn dots_of_placeable(file: &[u8]) -> Option<Axes>
+    ensures { result ≡ dots_in FileFormat.Placeable file.now }
+{
+    if !has_inch(file) {
+        return None;
+    }
+    let units = u128::from(u16_at(file, 14));
+    short_axes(units, units)
+}
+
+/// The dots per inch of an EMF file, by Device and Millimeters.
+fn dots_of_emf(file: &[u8]) -> Option<Axes>
+    ensures { result ≡ dots_in FileFormat.Emf file.now }
+{
+    if !has_device(file) {
+        return None;
+    }
+    let (pixels_x, pixels_y) = (u32_at(file, 72), u32_at(file, 76));
+    let (millimetres_x, millimetres_y) = (u32_at(file, 80), u32_at(file, 84));
+    short_axes(
+        dots_per_inch(pixels_x, millimetres_x),
+        dots_per_inch(pixels_y, millimetres_y),
+    )
+}
+
 /// The size on paper of a frame with this width and height, if the headers give it.
-fn paper_in(format: FileFormat, file: &[u8], width: u32, height: u32) -> Option<Paper>
+fn paper_in(format: FileFormat, file: &[u8], width: u32, height: u32) -> Option<Axes>
     ensures { result ≡ paper_in format file.now width height }
 {
     match format {
@@ -44,18 +82,17 @@ fn paper_in(format: FileFormat, file: &[u8], width: u32, height: u32) -> Option<
 }
 
 /// The size on paper of a placeable file's frame, by Inch.
-fn paper_of_placeable(file: &[u8], width: u32, height: u32) -> Option<Paper>
+fn paper_of_placeable(file: &[u8], width: u32, height: u32) -> Option<Axes>
     ensures { result ≡ paper_in FileFormat.Placeable file.now width height }
 {
     if !has_inch(file) {
         return None;
     }
     let units = u32::from(u16_at(file, 14));
-    let (width, height) = (
+    short_axes(
         length_of_units(width, units),
         length_of_units(height, units),
-    );
-    short_paper(u128::from(units), u128::from(units), width, height)
+    )
 }
 
 /// Whether Inch is there, and isn't 0.
@@ -66,7 +103,7 @@ fn has_inch(file: &[u8]) -> bool
 }
 
 /// The size on paper of an EMF file's frame, by Device and Millimeters.
-fn paper_of_emf(file: &[u8], width: u32, height: u32) -> Option<Paper>
+fn paper_of_emf(file: &[u8], width: u32, height: u32) -> Option<Axes>
     ensures { result ≡ paper_in FileFormat.Emf file.now width height }
 {
     if !has_device(file) {
@@ -74,9 +111,7 @@ fn paper_of_emf(file: &[u8], width: u32, height: u32) -> Option<Paper>
     }
     let (pixels_x, pixels_y) = (u32_at(file, 72), u32_at(file, 76));
     let (millimetres_x, millimetres_y) = (u32_at(file, 80), u32_at(file, 84));
-    short_paper(
-        dots_per_inch(pixels_x, millimetres_x),
-        dots_per_inch(pixels_y, millimetres_y),
+    short_axes(
         length_of_pixels(width, pixels_x, millimetres_x),
         length_of_pixels(height, pixels_y, millimetres_y),
     )
@@ -176,18 +211,16 @@ fn product(length: u32, millimetres: u32) -> u128
     u128::from(length) * (100 * u128::from(millimetres))
 }
 
-/// Dots per inch, and a width and a height, if all have at most 32 bits.
-fn short_paper(dots_x: u128, dots_y: u128, width: u128, height: u128) -> Option<Paper>
-    ensures { result ≡ short_paper dots_x dots_y width height }
+/// A number of each axis, if both have at most 32 bits.
+fn short_axes(x: u128, y: u128) -> Option<Axes>
+    ensures { result ≡ short_axes x y }
 {
-    if !(is_short(dots_x) && is_short(dots_y) && is_short(width) && is_short(height)) {
+    if !(is_short(x) && is_short(y)) {
         return None;
     }
-    Some(Paper {
-        dots_x: dots_x as u32,
-        dots_y: dots_y as u32,
-        width: width as u32,
-        height: height as u32,
+    Some(Axes {
+        x: x as u32,
+        y: y as u32,
     })
 }
 

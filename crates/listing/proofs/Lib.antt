@@ -12,3 +12,4 @@ pub mod FileLemmas
 pub mod EndLemmas
 pub mod StopLemmas
 pub mod LawLemmas
+pub mod CoreListingLemmas

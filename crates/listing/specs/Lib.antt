@@ -7,6 +7,7 @@ pub mod Line
 pub mod Listing
 pub mod FileRecords
 pub mod ListingLaws
+pub mod CoreListingLaws
 pub mod Putting
 pub mod Sent
 pub mod SameStep

@@ -1,5 +1,6 @@
-//! The law of listings.
+//! The laws of listings.
 
+ghost use Rattle.listing.specs.CoreListingLaws.{CoreListingLaws};
 ghost use Rattle.listing.specs.ListingLaws.{ListingLaws};
 
 use dc_stack::fault_law;
@@ -23,4 +24,11 @@ pub fn listing_law()
     opening_law();
     records_law();
     text_law();
+}
+
+/// Under the core profile a listing is that of the file as `open_file` opens it, and EMF+ is no fault.
+pub fn core_listing_law()
+    ensures { CoreListingLaws }
+{
+    opening_law();
 }

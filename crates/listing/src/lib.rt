@@ -18,6 +18,7 @@
 //! - Only if the fault is a nib that is too wide, the line may say instead that the record is off the plane, as it is
 //!   on a larger surface. As many lines come before it as its number says, and none contains a line feed
 //!   (`listing_law`).
+//! - Under the core profile a listing is that of the file as it opens without rules (`core_listing_law`).
 //! - A listing continues after a fault in a record's meaning, but ends with a framing fault. How the records end is
 //!   returned.
 //! - A walk returns the records of some bytes in order, each with its number and its offset, and then nothing or the
@@ -49,7 +50,7 @@ mod wmf_names;
 pub use dry_run::DryRun;
 pub use emf_names::{emf_names_law, type_name};
 pub use formats::{first_place, records_in};
-pub use laws::listing_law;
+pub use laws::{core_listing_law, listing_law};
 pub use line::step_in;
 pub use listing_end::ListingEnd;
 pub use listing_output::{write_listing, write_listing_to};

@@ -1,5 +1,5 @@
 -- Bounding boxes of points, and how maps of each axis change them.
-use Rattle.std.specs.Prelude.{◌≡◌, ◌⊎◌, pos, negsuc, ℤ, ◌≤ℤ◌, Bool, ◌&&◌, int_le, List, [], ◌∷◌, Option, Some, None}
+use Rattle.std.specs.Prelude.{◌≡◌, ◌⊎◌, pos, negsuc, ℤ, ◌≤ℤ◌, Bool, ◌&&◌, int_le, List, [], ◌∷◌}
 use Rattle.std.specs.Int.{int_max, int_min}
 use Rattle.std.specs.List.{All, Any}
 use Rattle.mapping.specs.declared.geometry.Point.{Point}
@@ -28,11 +28,6 @@ no_box = record { l = pos 0; t = pos 0; r = negsuc 0; b = negsuc 0 }
 abbrev pub IsBoundingBox : Rect → List Point → Type 0
 IsBoundingBox box [] = box ≡ no_box
 IsBoundingBox box (point ∷ points) = IsTight box (point ∷ points)
-
--- the bounding box of some points, if there is a point
-abbrev pub IsBoxOf : Option Rect → List Point → Type 0
-IsBoxOf None points = points ≡ []
-IsBoxOf (Some box) points = IsTight box points
 
 -- v lies between two coordinates, in any order
 abbrev pub IsBetween : ℤ → ℤ → ℤ → Type 0

@@ -33,5 +33,7 @@ pub mod TakenLineLemmas
 pub mod WorkedPaths
 pub mod WorkedFigures
 pub mod WideSpanLemmas
+pub mod MaskStrokeLemmas
+pub mod ReachedPartLemmas
 pub mod FillSpanLemmas
 pub mod MaskSpanLemmas

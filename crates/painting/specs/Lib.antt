@@ -33,6 +33,7 @@ pub mod Parts
 pub mod Fills
 pub mod FillSpans
 pub mod Dots
+pub mod ReachedParts
 pub mod RectangleBoxes
 pub mod Regions
 pub mod WideSpans

@@ -11,6 +11,9 @@ use std::alloc::Global;
 /// The most lines of one drawing.
 const MAX_LINES: u32 = 1_048_576;
 
+/// So many lines may cover the same pixels again and again, also by a nib of one pixel.
+const MANY_LINES: u32 = 4096;
+
 /// The memory for drawings.
 ///
 /// # Guarantees
@@ -22,7 +25,7 @@ pub struct DrawingScratch {
     pub rows: RowBuf,
     /// A visited mask for thin strokes, if drawings can have more than one line.
     pub(crate) visited: Option<VisitedMask>,
-    /// A mask for strokes by wide pens, if drawings can have more than one line and a pen is wide.
+    /// A mask for strokes of many lines, or by wide pens.
     pub(crate) mask: Option<StrokeMask>,
     /// Scratch buffers for one row of pixels.
     pub(crate) row_ops: RowOpScratch,
@@ -70,13 +73,13 @@ fn visited_for(alloc: Global, lines: u32) -> Result<Option<VisitedMask>, OutOfMe
     Ok(Some(visited))
 }
 
-/// A mask, if drawings can have more than one line and a pen is wide.
+/// A mask, if drawings can have many lines, or a pen is wide and they can have more than one.
 fn mask_for(
     alloc: Global,
     lines: u32,
     has_wide_pens: bool,
 ) -> Result<Option<StrokeMask>, OutOfMemory> {
-    if lines < 2 || !has_wide_pens {
+    if lines < MANY_LINES && (lines < 2 || !has_wide_pens) {
         return Ok(None);
     }
     let mask = StrokeMask::new(alloc)?;

@@ -15,6 +15,7 @@ ghost use Rattle.painting.specs.declared.outline_rows.Part.TheVariants.{Lines};
 
 use crate::line_steps::step_line;
 use crate::lone_line::lone_line;
+use crate::mask_stroking::stroke_by_mask;
 use crate::outline_rows::{Part, paint_rows};
 use crate::rectangles::{LineList, box_lines, has_inside};
 use crate::regions::{Bounds, visible_in, whole_law};
@@ -23,7 +24,7 @@ use crate::row_painter::{RowOps, RowPainter};
 use crate::scratch::DrawingScratch;
 use crate::stroke::Stroke;
 use crate::visited_mask::VisitedMask;
-use crate::visited_mask_costs::visited_mask_pays;
+use crate::visited_mask_costs::{covers_much, visited_mask_pays};
 use crate::visiting::{begin_visited_mask, visit_lines};
 use crate::wide_stroking::stroke_wide_lines;
 use crate::widening::widened;
@@ -99,7 +100,8 @@ fn stroke_thin_lines<O: Outline + Copy>(
 }
 
 /// Strokes the lines that the row buffer has taken by a nib of one pixel, in a region that contains everything visible
-/// of them: through the visited mask if it can be used and costs less, or else by rows of spans.
+/// of them: through the stroke mask if the lines have more pixels than the region, through the visited mask if it can be
+/// used and costs less, or else by rows of spans.
 pub(crate) fn stroke_kept(
     canvas: &mut Canvas,
     scratch: &mut DrawingScratch,
@@ -115,8 +117,19 @@ pub(crate) fn stroke_kept(
     ensures few { CountsLayer canvas.old canvas.new }
     ensures capacity { scratch.new.rows.capacity ≡ scratch.old.rows.capacity }
 {
-    let DrawingScratch { rows, visited, .. } = &mut *scratch;
+    let DrawingScratch {
+        rows,
+        visited,
+        mask,
+        ..
+    } = &mut *scratch;
     let kept = LineList { rest: rows.lines() };
+    if covers_much(kept, drawn) {
+        if let Some(mask) = mask {
+            stroke_by_mask(canvas, mask, kept, drawn, stroke);
+            return;
+        }
+    }
     if visited_mask_pays(kept, drawn, stroke.clip) {
         if let Some(visited) = visited {
             if begin_visited_mask(visited, stroke.clip, drawn) {

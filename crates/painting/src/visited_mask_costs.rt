@@ -40,7 +40,9 @@ impl Shares {
         }
         // (a drawing has too few lines for an overflow)
         Shares {
-            steps: self.steps.wrapping_add(columns.max(rows) as usize),
+            steps: self
+                .steps
+                .wrapping_add(steps_in(line, columns as u32, rows as u32) as usize),
             rows: self.rows.wrapping_add(rows as usize),
         }
     }
@@ -65,6 +67,14 @@ pub(crate) fn visited_mask_pays<O: Outline + Copy>(outline: O, drawn: Region, cl
     is_narrow(drawn) || shares_of(outline, drawn).are_for_visited()
 }
 
+/// Whether an outline's long lines have so many rows in a box that many of them cover the same pixels.
+pub(crate) fn covers_much<O: Outline + Copy>(outline: O, drawn: Region) -> bool
+    requires columns { IsOfSide drawn.columns }
+    requires rows { IsOfSide drawn.rows }
+{
+    shares_of(outline, drawn).rows > pixels(drawn)
+}
+
 /// The shares of an outline's long lines in a box.
 fn shares_of<O: Outline + Copy>(outline: O, drawn: Region) -> Shares
     requires columns { IsOfSide drawn.columns }
@@ -81,6 +91,19 @@ fn shares_of<O: Outline + Copy>(outline: O, drawn: Region) -> Shares
 /// Whether a box has so few columns that each of its lines is short or y-major.
 fn is_narrow(drawn: Region) -> bool {
     drawn.columns.to <= drawn.columns.from.saturating_add(SHORT)
+}
+
+/// An estimate of the number of a line's pixels in a box, of which it meets this many columns and rows.
+fn steps_in(line: Line, columns: u32, rows: u32) -> u32 {
+    let across = line.to.x.abs_diff(line.from.x);
+    let down = line.to.y.abs_diff(line.from.y);
+    if across <= down {
+        return rows;
+    }
+    if across / STEPS_A_ROW as u32 <= down {
+        return columns.min(rows.wrapping_mul(STEPS_A_ROW as u32));
+    }
+    columns.max(rows)
 }
 
 /// Whether a line has few columns and few rows.

@@ -1,28 +1,34 @@
 //! Strokes by nibs of several pixels.
 
-ghost use Rattle.std.specs.Prelude.{◌≡◌, ◌≤◌, [], ◌∷◌, length};
+ghost use Rattle.std.specs.Prelude.{◌≡◌, ◌≤◌, [], ◌∷◌, IfSome, length};
 ghost use Rattle.mapping.specs.Nibs.{IsNib};
+ghost use Rattle.dc_stack.specs.Values.{placed_value};
 ghost use Rattle.span_fill.specs.Lines.{HasNearEnds};
-ghost use Rattle.span_fill.specs.StrokeMasks.{HasMaskCapacity};
 ghost use Rattle.span_fill.specs.WideStrokes.{in_wide_stroke};
 ghost use Rattle.painting.specs.Counts.{CountsLayer, HasCapacityForLayer};
+ghost use Rattle.painting.specs.ReachedParts.{HasAllOf, IsPartOf};
 ghost use Rattle.painting.specs.Regions.{HasNarrowNib, HasRegion, HoldShape, IsOfSide};
 ghost use Rattle.painting.specs.StrokedLines.{StrokesLines};
 ghost use Rattle.painting.specs.WideSpans.{MixesWide};
 
 use crate::lone_line::lone_line;
+use crate::mask_stroking::stroke_by_mask;
+use crate::reached_part::reached_part;
 use crate::regions::{visible_in, whole_law};
 use crate::scratch::DrawingScratch;
 use crate::stroke::Stroke;
 use crate::stroking::{StrokedLines, stroke_rows};
-use crate::wide_spans::{MaskSpans, WideLineSpans};
+use crate::wide_spans::WideLineSpans;
 use canvas::{Canvas, writing_law};
+use dc_stack::Clip;
 use mapping::{Mix, Nib};
-use span_fill::{Line, Outline, Region, StrokeMask, WideLine};
+use span_fill::{Line, Outline, Region, WideLine};
 
-/// Strokes the lines of an outline by a nib of several pixels. If the clip cuts boxes out, they are painted as rows of
-/// spans, since each span is then tested against these boxes. Otherwise a lone line is painted row by row. Several
-/// lines go through a mask if it is large enough for what is visible of them, or else are painted as rows of spans.
+/// To look at so many points takes about as long as to clear and read a mask of the largest band.
+const MANY_POINTS: u32 = 1024;
+
+/// Strokes the lines of an outline by a nib of several pixels. A lone line is painted row by row, if the clip cuts no
+/// boxes out. Other lines go through a mask, or if there is none, are painted as rows of spans.
 pub(crate) fn stroke_wide_lines<O: Outline + Copy>(
     canvas: &mut Canvas,
     scratch: &mut DrawingScratch,
@@ -41,21 +47,43 @@ pub(crate) fn stroke_wide_lines<O: Outline + Copy>(
     writing_law();
     whole_law(canvas);
     let drawn = visible_in(canvas, stroke.clip, lines.bounds.on_surface());
-    if !stroke.clip.cut_boxes().is_empty() {
-        stroke_rows(canvas, scratch, lines.outline, drawn, stroke);
-        return;
-    }
-    if let Some(line) = lone_line(lines.outline, lines.points) {
+    if let Some(line) = lone_uncut_line(lines.outline, lines.points, stroke.clip) {
         mix_wide_line(canvas, line, stroke.nib, drawn, stroke.mix);
         return;
     }
     if let Some(mask) = &mut scratch.mask {
-        if mask.has_capacity(drawn) {
-            mix_by_mask(canvas, mask, lines.outline, drawn, stroke);
-            return;
-        }
+        let part = reached_of(lines, stroke.nib, drawn);
+        stroke_by_mask(canvas, mask, lines.outline, part, stroke);
+        return;
     }
     stroke_rows(canvas, scratch, lines.outline, drawn, stroke);
+}
+
+/// The part of a region that a nib reaches along lines. All of it if there are many lines, since to look at each takes longer
+/// than a large mask.
+fn reached_of<O: Outline + Copy>(lines: StrokedLines<O>, nib: Nib, drawn: Region) -> Region
+    requires nib { IsNib nib }
+    requires columns { IsOfSide drawn.columns }
+    requires rows { IsOfSide drawn.rows }
+    ensures part { IsPartOf drawn result }
+    ensures all { HasAllOf drawn (in_wide_stroke nib (O.lines lines.outline)) result }
+{
+    if lines.points > MANY_POINTS {
+        return drawn;
+    }
+    reached_part(lines.outline, nib, drawn)
+}
+
+/// The only line of an outline, if the outline has exactly one and the clip cuts no boxes out.
+fn lone_uncut_line<O: Outline + Copy>(outline: O, points: u32, clip: &Clip) -> Option<Line>
+    ensures alone { IfSome result (λ line. O.lines outline ≡ line ∷ []) }
+    ensures near { IfSome result HasNearEnds }
+    ensures uncut { IfSome result (λ line. (placed_value clip.now).cuts ≡ []) }
+{
+    if !clip.cut_boxes().is_empty() {
+        return None;
+    }
+    lone_line(outline, points)
 }
 
 /// Mixes the pixels of a region that a nib covers along a line.
@@ -76,28 +104,4 @@ fn mix_wide_line(canvas: &mut Canvas, line: Line, nib: Nib, drawn: Region, mix: 
         columns: drawn.columns,
     };
     canvas.mix_each_span(&mut spans, mix);
-}
-
-/// Mixes the pixels of a region that the stroke's nib covers along an outline's lines, through a mask that is large
-/// enough.
-fn mix_by_mask<O: Outline + Copy>(
-    canvas: &mut Canvas,
-    mask: &mut StrokeMask,
-    outline: O,
-    drawn: Region,
-    stroke: &Stroke<'_>,
-)
-    requires nib { IsNib stroke.now.nib }
-    requires held { HasRegion canvas.old drawn }
-    requires columns { IsOfSide drawn.columns }
-    requires rows { IsOfSide drawn.rows }
-    requires small { HasMaskCapacity drawn }
-    requires countable { HasCapacityForLayer canvas.old }
-    ensures { MixesWide drawn stroke.now.nib (O.lines outline) stroke.now.mix canvas.old canvas.new }
-{
-    writing_law();
-    whole_law(canvas);
-    let mut lines = outline;
-    mask.begin(&mut lines, stroke.nib, drawn);
-    canvas.mix_each_span(&mut MaskSpans { mask }, stroke.mix);
 }

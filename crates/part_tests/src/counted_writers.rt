@@ -66,6 +66,8 @@ struct Stuck {
     taken: Vec<u8>,
     /// The number of bytes that were flushed.
     flushed: usize,
+    /// The number of flushes, with those that failed.
+    flushes: usize,
     failures: usize,
     kind: ErrorKind,
 }
@@ -79,6 +81,7 @@ impl Stuck {
         Stuck {
             taken: Vec::new(alloc),
             flushed: 0,
+            flushes: 0,
             failures,
             kind,
         }
@@ -92,6 +95,7 @@ impl Write for Stuck {
     }
 
     fn flush(&mut self) -> io::Result<()> {
+        self.flushes = self.flushes.saturating_add(1);
         if self.failures > 0 {
             self.failures -= 1;
             return Err(io::Error::from(self.kind));
@@ -199,6 +203,21 @@ fn a_plain_flush_answers_as_the_writer_does(rt: HostRuntime) -> Result<(), Fail>
     same(&rt, out.faults(), 0);
     same(&rt, out.flush().is_ok(), true);
     same(&rt, out.into_writer().flushed, 2);
+    Ok(())
+}
+
+#[test]
+fn each_flush_reaches_the_writer(rt: HostRuntime) -> Result<(), Fail> {
+    let mut out = Counting::new(Stuck::new(rt.alloc(), 0));
+    assert!(rt; out.faults() == 0);
+    send_counted(&mut out, b"ab".as_slice())?;
+    assert!(rt; out.faults() == 0);
+    same(&rt, out.flush_counted().is_ok(), true);
+    assert!(rt; out.faults() == 0);
+    same(&rt, out.flush_counted().is_ok(), true);
+    same(&rt, out.flush().is_ok(), true);
+    same(&rt, out.flush().is_ok(), true);
+    same(&rt, out.into_writer().flushes, 4);
     Ok(())
 }
 

@@ -9,7 +9,7 @@ use draw_ops::Fault;
 use mapping::Place;
 use object_tables::FileTable;
 use painting::DrawingScratch;
-use preflight_cert::{Cleared, Version};
+use preflight_cert::Cleared;
 use span_fill::OutOfMemory;
 use std::alloc::Global;
 
@@ -72,7 +72,7 @@ fn capacity_within<'a>(
     ) else {
         return Err(OutOfMemory);
     };
-    let has_wide_pens = cleared.certificate.entries.version == Version::Mpc2;
+    let has_wide_pens = cleared.certificate.has_wide_nib();
     let Ok(drawings) = DrawingScratch::for_lines(alloc, needs.edges, has_wide_pens) else {
         return Err(OutOfMemory);
     };

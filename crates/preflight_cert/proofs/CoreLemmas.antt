@@ -17,6 +17,8 @@ use Rattle.dc_stack.specs.Selecting.{is_in_use}
 use Rattle.dc_stack.specs.State.{State, start_of}
 use Rattle.preflight_cert.specs.After.{counted_uses, file_uses, state_after}
 use Rattle.preflight_cert.specs.CoreLaws.{CoreLaws}
+use Rattle.preflight_cert.specs.TextLaws.{TextLaws}
+use Rattle.preflight_cert.proofs.OnePartLemmas.{part_after, part_of_opened}
 use Rattle.preflight_cert.specs.Stop.{Stop, broken_after, end_of, step_stop, stop_of, stopped, stopped_or}
 use Rattle.preflight_cert.specs.declared.uses.Uses.{Uses}
 
@@ -71,10 +73,14 @@ or_none (Some stop) = refl
 ends : (content : Content) (state : State) → is_print state.rules ≡ false → end_of content state ≡ broken_after (length content.steps) content.fault
 ends content state core = rw core (or_none (broken_after (length content.steps) content.fault))
 
-pub core_laws : CoreLaws
-core_laws = record {
+pub core_laws : TextLaws → CoreLaws
+core_laws laws = record {
   stops = λ content state s core. ap (λ (after : Option Stop). stopped content.steps after state s) (ends content state core);
   uses_nothing = λ content o s core none.
       let held : (state_after content.steps (start_of o)).held_deletions ≡ 0 = all_kept content.steps (end_of content (start_of o)) (start_of o) s core none in
       rw (held, core) refl;
+  one_part = λ rules file o steps core opens. part_after steps (start_of o) (part_of_opened rules file o core opens) refl;
+  text = λ rules c core. rw core refl;
+  version = λ rules entries core. rw core refl;
+  rules_back = λ rules c core. laws.rules_back rules c ∙ rw core refl;
 }

@@ -37,3 +37,5 @@ pub mod RefusalLemmas
 pub mod MissedLemmas
 mod WorkedRows
 pub mod CoreLemmas
+pub mod WideNibLemmas
+pub mod OnePartLemmas

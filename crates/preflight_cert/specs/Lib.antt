@@ -42,3 +42,4 @@ pub mod OpenedRecords
 pub mod ClearedFacts
 pub mod ObjectOrder
 pub mod CoreLaws
+pub mod WideNibs

@@ -1,6 +1,6 @@
 //! Certificates, read in place.
 
-ghost use Rattle.std.specs.Prelude.{◌≡◌, ◌<◌, length, IfErr, IfOk, Some, slice_get, true};
+ghost use Rattle.std.specs.Prelude.{◌≡◌, ◌<◌, ◌↔◌, length, IfErr, IfOk, IsTrue, Some, slice_get, true};
 ghost use Rattle.mapping.specs.Limits.{IsSurfaceSide};
 
 use crate::certificate_entry::{Entries, Entry};
@@ -35,6 +35,7 @@ impl<'a> Certificate<'a> {
     ghost use Rattle.preflight_cert.specs.CertificateOf.{certificate_of};
     ghost use Rattle.preflight_cert.specs.CertificateReading.{is_by_print, read_certificate, read_print, rules_in};
     ghost use Rattle.preflight_cert.specs.EntriesOf.{entries_of};
+    ghost use Rattle.preflight_cert.specs.WideNibs.{HasWideNib};
 
     /// Reads a certificate, or returns the first fault of its bytes:
     ///
@@ -87,6 +88,13 @@ impl<'a> Certificate<'a> {
         ensures { result ≡ length (entries_of self.entry.entries) }
     {
         self.entries.len()
+    }
+
+    /// Whether an entry has a nib of more than one pixel.
+    pub fn has_wide_nib(self) -> bool
+        ensures { IsTrue result ↔ HasWideNib (entries_of self.entry.entries) }
+    {
+        self.entries.have_wide_nib()
     }
 
     /// The entry at an index.

@@ -2,6 +2,7 @@
 
 ghost use Rattle.std.specs.Prelude.{◌≡◌, ◌+◌, ◌<◌, ◌≤◌, ◌%◌, ◌∷◌, ◌↔◌, [], length, IsNone, IsTrue, IfSome, Some, slice_get};
 ghost use Rattle.preflight_cert.specs.CertificateReading.{entry_size, first_entry, nib_in};
+ghost use Rattle.preflight_cert.specs.WideNibs.{have_wide_nib, is_wide};
 
 use crate::version::Version;
 use mapping::{Nib, Rect};
@@ -72,6 +73,37 @@ impl<'a> Entries<'a> {
         };
         Some((first_entry(self.version, self.bytes), rest))
     }
+
+    /// Whether an entry has a nib of more than one pixel.
+    pub(crate) fn have_wide_nib(self) -> bool
+        ensures { result ≡ have_wide_nib (entries_of self.entry) }
+    {
+        match self.version {
+            Version::Mpc1 => false,
+            Version::Mpc2 => self.find_wide_nib(),
+        }
+    }
+
+    /// The same, entry by entry.
+    fn find_wide_nib(self) -> bool
+        ensures { result ≡ have_wide_nib (entries_of self.entry) }
+    {
+        let mut left = self;
+        while let Some((entry, rest)) = left.split_first() {
+            if is_wide(entry.nib) {
+                return true;
+            }
+            left = rest;
+        }
+        false
+    }
+}
+
+/// Whether a nib has more than one column or row.
+fn is_wide(nib: Nib) -> bool
+    ensures { result ≡ is_wide nib }
+{
+    nib.x > 1 || nib.y > 1
 }
 
 /// The entry in the first bytes.

@@ -72,6 +72,7 @@ fn check_opened<'a>(
     opened: Opened<'a>,
     certificate: Certificate<'a>,
 ) -> Result<Cleared<'a>, Refusal>
+    requires ruled { certificate.rules ≡ opened.rules }
     ensures opened { IfOk result (λ c. c.opened ≡ opened.entry) }
     ensures certificate { IfOk result (λ c. c.certificate ≡ certificate.entry) }
     ensures counts { IfOk result (λ c. CountsRecordsOf opened.entry c.records c.notes.counts c.uses) }

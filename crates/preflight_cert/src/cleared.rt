@@ -1,5 +1,6 @@
 //! A file and a certificate that was accepted for it.
 
+ghost use Rattle.std.specs.Prelude.{◌≡◌};
 ghost use Rattle.meta_headers.specs.OpenedOf.{opened_of};
 ghost use Rattle.preflight_cert.specs.Answer.{CountsRecords, IsCleared};
 ghost use Rattle.preflight_cert.specs.CertificateOf.{certificate_of};
@@ -15,6 +16,7 @@ use meta_headers::Opened;
 ///
 /// - The certificate fits the file's records, and the counts are those of the records (`cleared_law` says what
 ///   follows).
+/// - The file was opened under the certificate's rules.
 #[derive(Clone, Copy, Debug)]
 pub struct Cleared<'a> {
     pub opened: Opened<'a>,
@@ -25,6 +27,7 @@ pub struct Cleared<'a> {
     pub notes: Notes,
     /// How often the file uses what its rules can allow.
     pub uses: Uses,
+    pub ghost ruled: { certificate.rules ≡ opened.rules },
     pub ghost checked: { IsCleared (opened_of opened) opened.records.now (certificate_of certificate) },
     pub ghost counted: { CountsRecords (opened_of opened) opened.records.now records notes.counts uses },
 }

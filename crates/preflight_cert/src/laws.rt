@@ -35,9 +35,12 @@ pub fn run_law()
 }
 
 /// Under the core profile a run stops only in a step, or where the records break, and uses nothing that can be allowed.
+/// A unit has one part throughout. The text of a certificate is that of its version.
 pub fn core_law()
     ensures { CoreLaws }
-{}
+{
+    text_law();
+}
 
 /// The law of drawings' boxes. Take a box of the plane that contains the points of a shape. Unless the shape is the
 /// inside of open figures, all its pixels lie in that box, placed on the surface and widened by the shape's nib. A

@@ -13,19 +13,20 @@
 //!   counted there (`missed_rows_law`).
 //! - Capacity for an operation's needs is enough for it, and full capacity is enough for any operation (`need_law`).
 //! - A certificate is read in full or rejected with the first fault of its bytes (`Certificate::read`), and its entries
-//!   are those in the bytes, by index and from the first one on (`Certificate::entry`, `Entries`).
+//!   are those in the bytes, by index and from the first one on (`Certificate::entry`, `Entries`). Whether a nib has more
+//!   than one pixel is found by reading them (`Certificate::has_wide_nib`).
 //! - There is exactly one answer to a file and a certificate. It is `accepted` exactly if the certificate fits the
 //!   file's records, and then the file is sound within the certificate's bound and writes (`answer_law`). `check`
 //!   returns that answer, or `OutOfMemory`, which is possible only if the file opens and the certificate can be read.
 //! - A file and a certificate that was accepted for it (`Cleared`) carry the result of `check`: the certificate fits
-//!   the file's records, and these are counted. So the file is sound within the certificate's bound and writes, whoever
+//!   the file's records, and these are counted. The file was opened under the certificate's rules. So the file is sound within the certificate's bound and writes, whoever
 //!   made the value (`cleared_law`).
 //! - A prepared certificate is accepted. There is only one for a file and a bound, and no other accepted one asks for
 //!   less (`prepare`, `preparation_law`). So it is cleared without a check (`Prepared::clear`).
 //! - A file that plays at a bound has a certificate for it. What is prepared for a file is a certificate with all
 //!   numbers within their limits, and is accepted (`prepared_law`).
-//! - Under the core profile a run stops only in a step, or where the records break, and uses nothing that can be allowed
-//!   (`core_law`).
+//! - Under the core profile a run stops only in a step, or where the records break, and uses nothing that can be
+//!   allowed. A unit has one part throughout, and a certificate's text is that of its version (`core_law`).
 //! - Reading returns what was written, and bytes that are read are the text of what they describe (`text_law`).
 #![tactic(auto)]
 

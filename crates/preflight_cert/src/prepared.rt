@@ -31,6 +31,7 @@ use std::alloc::Global;
 /// # Guarantees
 ///
 /// - The certificate is accepted for the file's records, and the counts are those of the records.
+/// - The file was opened under the certificate's rules.
 #[derive(Drop)]
 pub struct Prepared<'a> {
     pub opened: Opened<'a>,
@@ -42,6 +43,7 @@ pub struct Prepared<'a> {
     pub notes: Notes,
     /// How often the file uses what its rules can allow.
     pub uses: Uses,
+    pub ghost ruled: { rules_in text.items ≡ opened.rules },
     pub ghost readable: { IsOk (read_certificate text.items) },
     pub ghost cleared: { ForOk (read_certificate text.items) (IsCleared (opened_of opened) opened.records.now) },
     pub ghost counted: { CountsRecords (opened_of opened) opened.records.now records notes.counts uses },

@@ -1,3 +1,4 @@
 pub mod Parts
 pub mod Profile
+pub mod CoreReportLaws
 pub mod Whole

@@ -50,21 +50,22 @@ any_joined f n distance order = same_test _ _
     back : (k m : ℕ) → m ≤ k → k ≡ m + (k - m)
     back k m h = omega (arith, h)
 
+-- of two tests, one or the other
+pub any_or : (f g : ℕ → Bool) (n : ℕ) → any_below (λ k. f k || g k) n ≡ (any_below f n || any_below g n)
+any_or f g n = same_test _ _
+    (λ t.
+    let there = any_passes (λ k. f k || g k) n t in
+    by_either (f there.at) (g there.at) there.passes
+    (λ (h : f there.at ≡ true). or_left _ _ (any_from f n there.at there.below h))
+    (λ (h : g there.at ≡ true). or_right _ _ (any_from g n there.at there.below h)))
+    (λ t. by_either (any_below f n) (any_below g n) t
+    (λ (h : any_below f n ≡ true). let there = any_passes f n h in any_from (λ k. f k || g k) n there.at there.below (or_left _ _ there.passes))
+    (λ (h : any_below g n ≡ true). let there = any_passes g n h in any_from (λ k. f k || g k) n there.at there.below (or_right _ _ there.passes)))
+
 -- of lines and numbers, the one or the other first
 pub any_list : {X : Type 0} (f : X → ℕ → Bool) (xs : List X) (n : ℕ) → any_below (λ k. list_any (λ x. f x k) xs) n ≡ list_any (λ x. any_below (f x) n) xs
 any_list f [] n = any_none (λ k. false) n (λ k below. refl)
 any_list f (x ∷ xs) n = any_or (f x) (λ k. list_any (λ y. f y k) xs) n ∙ ap (λ (b : Bool). any_below (f x) n || b) (any_list f xs n)
-  where
-    any_or : (f g : ℕ → Bool) (n : ℕ) → any_below (λ k. f k || g k) n ≡ (any_below f n || any_below g n)
-    any_or f g n = same_test _ _
-        (λ t.
-        let there = any_passes (λ k. f k || g k) n t in
-        by_either (f there.at) (g there.at) there.passes
-        (λ (h : f there.at ≡ true). or_left _ _ (any_from f n there.at there.below h))
-        (λ (h : g there.at ≡ true). or_right _ _ (any_from g n there.at there.below h)))
-        (λ t. by_either (any_below f n) (any_below g n) t
-        (λ (h : any_below f n ≡ true). let there = any_passes f n h in any_from (λ k. f k || g k) n there.at there.below (or_left _ _ there.passes))
-        (λ (h : any_below g n ≡ true). let there = any_passes g n h in any_from (λ k. f k || g k) n there.at there.below (or_right _ _ there.passes)))
 
 -- the numbers in three parts
 pub any_three :

@@ -1,12 +1,12 @@
 -- Bits of rows, by their numbers in all words.
-use Rattle.std.proofs.Common.{◌≡◌, ℕ, ◌+◌, ◌-◌, ◌*◌, ◌/◌, ◌%◌, ◌<◌, ◌≤◌, Bool, true, false, ◌&&◌, ◌||◌, ◌==◌, inl, inr, nat_le, nat_lt, List, slice_index, arith, refl, ap, sym, ◌∙◌}
+use Rattle.std.proofs.Common.{◌≡◌, ℕ, ◌+◌, ◌-◌, ◌*◌, ◌/◌, ◌%◌, ◌<◌, ◌≤◌, Bool, true, false, ◌&&◌, ◌||◌, ◌==◌, not, inl, inr, nat_le, nat_lt, List, slice_index, arith, refl, ap, sym, ◌∙◌}
 use Rattle.std.proofs.lemmas.Bool.{and_left, and_right, cases_order, eq-eqb, le-ltb, lt-leb, ne_eqb}
 use Rattle.std.proofs.lemmas.Bool.Decides.{nat_tests}
 use Rattle.std.proofs.lemmas.Nat.{mul-le}
 use Rattle.std.proofs.lemmas.Nat.Bits.{bit_at-zero}
-use Rattle.span_fill.specs.BitWords.{IsNextBit, joined_word, word_bit}
-use Rattle.span_fill.specs.BitRows.{BitRowsState, IsNext, JoinsRows, SetsBits, has_bit}
-use Rattle.span_fill.proofs.BitWordLemmas.{is_set, set_in_or}
+use Rattle.span_fill.specs.BitWords.{IsNextBit, in_both, joined_word, word_bit}
+use Rattle.span_fill.specs.BitRows.{BitRowsState, ClearsBits, IsNext, JoinsRows, KeepsCommon, SetsBits, has_bit}
+use Rattle.span_fill.proofs.BitWordLemmas.{is_set, set_in_and, set_in_or}
 
 -- a row ends where the next begins
 row_after : (i row stride : ℕ) → i < row → i * stride + stride ≤ row * stride
@@ -74,6 +74,51 @@ row_is_set old given new row from to first fits within is at bits x i inside bel
     ∙ ap (λ k. word_bit old.words n || (nat_le (k + from) n && nat_lt n (k + to))) at
     ∙ ap (λ t. word_bit old.words n || t) (in_row x i row from to old.stride (omega arith) (omega arith))
     ∙ ap (λ t. t || (i == row && (nat_le from x && nat_lt x to))) (sym (numbered old x i))
+
+-- the bits of a row are cleared
+pub row_is_cleared : (old : BitRowsState) (given new : List ℕ) (row from to first : ℕ) → old.columns ≤ 64 * old.stride → to ≤ old.columns → given ≡ old.words → first ≡ 64 * (row * old.stride)
+    → ((n : ℕ) → word_bit new n ≡ (word_bit given n && not (nat_le (first + from) n && nat_lt n (first + to))))
+    → ClearsBits row from to old (with_words old new)
+row_is_cleared old given new row from to first fits within is at bits x i inside below =
+    let n = 64 * (i * old.stride) + x in
+    numbered (with_words old new) x i
+    ∙ bits n
+    ∙ ap (λ (words : List ℕ). word_bit words n && not (nat_le (first + from) n && nat_lt n (first + to))) is
+    ∙ ap (λ k. word_bit old.words n && not (nat_le (k + from) n && nat_lt n (k + to))) at
+    ∙ ap (λ t. word_bit old.words n && not t) (in_row x i row from to old.stride (omega arith) (omega arith))
+    ∙ ap (λ t. t && not (i == row && (nat_le from x && nat_lt x to))) (sym (numbered old x i))
+
+-- of two rows the words lie apart
+pub rows_are_apart : (row other stride : ℕ) → other * stride < row * stride → other * stride + stride ≤ row * stride
+rows_are_apart row other stride h = elim (cases_order other row) [
+  | inl same ↦ let e : other * stride ≡ row * stride = ap (λ k. k * stride) same in absurd (omega arith)
+  | inr (inl above) ↦ row_after other row stride above
+  | inr (inr below) ↦ let next = row_after row other stride below in absurd (omega (arith, next))
+]
+
+-- the bits of a row stay that are set in another row
+pub row_is_common : (old : BitRowsState) (given new : List ℕ) (row other : ℕ) → old.columns ≤ 64 * old.stride → given ≡ old.words
+    → ((k : ℕ) → k < old.stride → slice_index new (row * old.stride + k) ≡ in_both given (row * old.stride + k) (other * old.stride + k))
+    → ((k : ℕ) → k < row * old.stride → slice_index new k ≡ slice_index given k)
+    → ((k : ℕ) → row * old.stride + old.stride ≤ k → slice_index new k ≡ slice_index given k)
+    → KeepsCommon row other old (with_words old new)
+unfolding has_bit
+row_is_common old given new row other fits is common before after = record {
+  common = λ x inside.
+      let own = row * old.stride + x / 64 in
+      let others = other * old.stride + x / 64 in
+      ap (λ word. is_set word (x % 64)) (common (x / 64) (omega arith))
+      ∙ set_in_and (slice_index given own) (slice_index given others) (x % 64)
+      ∙ ap (λ (words : List ℕ). is_set (slice_index words own) (x % 64) && is_set (slice_index words others) (x % 64)) is;
+  others = λ x i inside below apart.
+      let at = i * old.stride + x / 64 in
+      let same : slice_index new at ≡ slice_index given at = elim (cases_order i row) [
+        | inl equal ↦ absurd (apart equal)
+        | inr (inl above) ↦ let next = row_after i row old.stride above in before at (omega (arith, next))
+        | inr (inr beyond) ↦ let next = row_after row i old.stride beyond in after at (omega (arith, next))
+      ] in
+      ap (λ word. is_set word (x % 64)) same ∙ ap (λ (words : List ℕ). is_set (slice_index words at) (x % 64)) is;
+}
 
 -- rows further on lie further on
 pub rows_are_there : (rows distance all stride : ℕ) → rows + distance ≤ all → rows * stride + distance * stride ≤ all * stride

@@ -33,7 +33,7 @@ head_mask from = 18446744073709551615 * 2 ^ from % 18446744073709551616
 abbrev pub tail_mask : ℕ → ℕ
 tail_mask last = 18446744073709551615 / 2 ^ (63 - last)
 
-set_in_head : (from bit : ℕ) → from < 64 → bit < 64 → is_set (head_mask from) bit ≡ nat_le from bit
+pub set_in_head : (from bit : ℕ) → from < 64 → bit < 64 → is_set (head_mask from) bit ≡ nat_le from bit
 set_in_head from bit h k = elim (cases_lt bit from) [
   | inl below ↦
       ap (λ n. is_set n bit) (ones_shl 64 from (omega arith)) ∙ ap (λ n. n == 1) (bit_at_mask_below from 64 bit below) ∙ sym (lt-leb from bit below)
@@ -41,7 +41,7 @@ set_in_head from bit h k = elim (cases_lt bit from) [
       ap (λ n. is_set n bit) (ones_shl 64 from (omega arith)) ∙ ap (λ n. n == 1) (bit_at_mask_inside from 64 bit there k) ∙ sym (le-leb from bit there)
 ]
 
-set_in_tail : (last bit : ℕ) → last < 64 → is_set (tail_mask last) bit ≡ nat_le bit last
+pub set_in_tail : (last bit : ℕ) → last < 64 → is_set (tail_mask last) bit ≡ nat_le bit last
 set_in_tail last bit h =
     let width : 64 - (63 - last) ≡ last + 1 = omega arith in
     let mask = ones_shr 64 (63 - last) (omega arith) ∙ ap (λ n. 2 ^ n - 1) width in
@@ -71,20 +71,21 @@ word_joined words at mask n within = elim (cases_eq (n / 64) at) [
 ]
 
 -- the bits of one word
-within_word : (from last n : ℕ) → from / 64 ≡ last / 64 → (n / 64 == from / 64 && (nat_le (from % 64) (n % 64) && nat_le (n % 64) (last % 64))) ≡ (nat_le from n && nat_le n last)
+pub within_word : (from last n : ℕ) → from / 64 ≡ last / 64 → (n / 64 == from / 64 && (nat_le (from % 64) (n % 64) && nat_le (n % 64) (last % 64))) ≡ (nat_le from n && nat_le n last)
 within_word from last n same = grind (arith, nat_tests)
 
-first_word : (from last n : ℕ) → from / 64 < last / 64 → n / 64 ≤ from / 64 → (n / 64 == from / 64 && nat_le (from % 64) (n % 64)) ≡ (nat_le from n && nat_le n last)
+pub first_word : (from last n : ℕ) → from / 64 < last / 64 → n / 64 ≤ from / 64 → (n / 64 == from / 64 && nat_le (from % 64) (n % 64)) ≡ (nat_le from n && nat_le n last)
 first_word from last n apart below = grind (arith, nat_tests)
 
-last_word : (from last n : ℕ) → from / 64 < last / 64 → last / 64 ≤ n / 64 → (n / 64 == last / 64 && nat_le (n % 64) (last % 64)) ≡ (nat_le from n && nat_le n last)
+pub last_word : (from last n : ℕ) → from / 64 < last / 64 → last / 64 ≤ n / 64 → (n / 64 == last / 64 && nat_le (n % 64) (last % 64)) ≡ (nat_le from n && nat_le n last)
 last_word from last n apart above = grind (arith, nat_tests)
 
 module _ (words : List ℕ) (from last n : ℕ) (order : from ≤ last) (within : last < 64 * length words) where
-  abbrev mask : ℕ
+  -- the bits from one of a word to another
+  abbrev pub mask : ℕ
   mask = bit_and (head_mask (from % 64)) (tail_mask (last % 64))
 
-  set_in_mask : is_set mask (n % 64) ≡ (nat_le (from % 64) (n % 64) && nat_le (n % 64) (last % 64))
+  pub set_in_mask : is_set mask (n % 64) ≡ (nat_le (from % 64) (n % 64) && nat_le (n % 64) (last % 64))
   set_in_mask =
       set_in_and (head_mask (from % 64)) (tail_mask (last % 64)) (n % 64)
       ∙ ap (λ t. t && is_set (tail_mask (last % 64)) (n % 64)) (set_in_head (from % 64) (n % 64) (omega arith) (omega arith))

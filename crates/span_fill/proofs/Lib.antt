@@ -51,5 +51,12 @@ pub mod MaskRowLemmas
 pub mod WideningLemmas
 pub mod MarkLemmas
 pub mod SharedRowLemmas
+pub mod MaskCoverLemmas
+pub mod CoveredColumnLemmas
+pub mod StepMarkLemmas
 pub mod BitWordLemmas
+pub mod ClearedBits
+pub mod RunsOfBits
+pub mod CommonBits
+pub mod CutLemmas
 pub mod BitRowLemmas

@@ -1,10 +1,9 @@
 -- Two edges alone have inside what is between them.
-use Rattle.std.proofs.Common.{◌≡◌, Bool, ℕ, ◌+◌, ◌<◌, ◌≤◌, true, false, cond, not, max, min, ◌&&◌, nat_le, nat_lt, inl, inr, List, [], ◌∷◌, length, get_or, refl, sym, ap, ◌∙◌, arith}
+use Rattle.std.proofs.Common.{◌≡◌, Bool, ℕ, ◌<◌, ◌≤◌, true, false, ◌&&◌, inl, inr, List, [], ◌∷◌, length, get_or, refl, sym, ap, ◌∙◌, arith}
 use Rattle.std.proofs.lemmas.Bool.{cases_Bool, false≢true}
 use Rattle.std.proofs.lemmas.Bool.Decides.{nat_tests}
 use Rattle.std.specs.List.{All}
 use Rattle.mapping.specs.declared.nib.Nib.{Nib}
-use Rattle.span_fill.specs.Edges.{column_of}
 use Rattle.span_fill.specs.Fill.{is_inside}
 use Rattle.span_fill.specs.Lines.{HasNearEnds}
 use Rattle.span_fill.specs.LonePairs.{is_between, is_lone_pair}

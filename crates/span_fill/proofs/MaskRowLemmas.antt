@@ -1,18 +1,14 @@
 -- What the rows of a mask have of a line.
-use Rattle.std.proofs.Common.{◌≡◌, ℕ, ◌+◌, ◌-◌, ◌*◌, ◌<◌, ◌≤◌, Bool, true, ◌&&◌, ◌||◌, nat_eq, min, max, ℤ, pos, ◌+ℤ◌, ◌-ℤ◌, List, [], ◌∷◌, refl, ap, sym, subst, ◌∙◌, arith}
-use Rattle.std.specs.List.{list_any}
+use Rattle.std.proofs.Common.{◌≡◌, ℕ, ◌+◌, ◌-◌, ◌<◌, ◌≤◌, Bool, true, ◌&&◌, ◌||◌, nat_eq, min, max, ℤ, pos, ◌+ℤ◌, ◌-ℤ◌, ap, sym, subst, ◌∙◌, arith}
 use Rattle.std.proofs.lemmas.Bool.{and_from, and_parts, eq-eqb, eqb-true}
 use Rattle.std.proofs.lemmas.Int.{ints}
 use Rattle.mapping.specs.Nibs.{reach_before}
 use Rattle.mapping.specs.TestLaws.{same_test}
-use Rattle.span_fill.specs.BitRows.{BitRowsState, has_bit}
 use Rattle.span_fill.specs.MaskFrames.{IsMaskFrame, depth_of, marks, marks_at, mask_row, row_at, row_count}
-use Rattle.span_fill.specs.MaskMarks.{IsClear, MarksLines}
-use Rattle.span_fill.specs.StrokeMasks.{height_of, width_of}
-use Rattle.span_fill.specs.WideStrokes.{any_below, covers_by_rows, in_wide_stroke, on_wide_line, row_of}
+use Rattle.span_fill.specs.StrokeMasks.{height_of}
+use Rattle.span_fill.specs.WideStrokes.{any_below, covers_by_rows, on_wide_line, row_of}
 use Rattle.span_fill.specs.declared.line.Line.{Line}
 use Rattle.span_fill.specs.declared.mask_frame.MaskFrame.{MaskFrame}
-use Rattle.span_fill.proofs.AnyLemmas.{any_list, any_same}
 use Rattle.span_fill.proofs.CoverLemmas.{any_from, any_passes, by_rows, reaches}
 
 -- the rows of lines from which a nib reaches a row of the region are those whose rows of the mask cover it
@@ -70,22 +66,3 @@ row_of_region frame line x y is within =
 -- the same bit, by what is known of its columns
 pub row_set : {new : Bool} (old : Bool) {a b : Bool} (i row : ℕ) → a ≡ b → new ≡ (old || (nat_eq i row && a)) → new ≡ (old || (nat_eq i row && b))
 row_set old {a} {b} i row f h = h ∙ ap (λ (t : Bool). old || (nat_eq i row && t)) f
-
--- a row of the region has, widened, what the nib covers of the lines that its rows of the mask were marked with
-pub stroke_of_rows :
-    (frame : MaskFrame) (lines : List Line) (old marked : BitRowsState) {bit : Bool} (depth x y : ℕ) → IsMaskFrame frame → x < width_of frame.region → y < height_of frame.region
-    → IsClear frame old → MarksLines frame lines old marked → depth ≡ depth_of frame → bit ≡ any_below (λ d. has_bit marked x (y + d)) depth
-    → bit ≡ in_wide_stroke frame.nib lines (x + frame.region.columns.from) (y + frame.region.rows.from)
-stroke_of_rows frame lines old marked {bit} depth x y is wide high clear marks_lines deep widened =
-    widened ∙ ap (any_below (λ d. has_bit marked x (y + d))) deep
-    ∙ any_same (λ d. has_bit marked x (y + d)) (λ d. list_any (λ line. marks frame line x (y + d)) lines) (depth_of frame)
-    (λ d below. let inside : y + d < 2 * height_of frame.region = omega (arith, high, below) in
-    marks_lines x (y + d) wide inside ∙ ap (λ (b : Bool). b || list_any (λ line. marks frame line x (y + d)) lines) (clear x (y + d) wide inside))
-    ∙ any_list (λ line d. marks frame line x (y + d)) lines (depth_of frame)
-    ∙ each_line lines
-  where
-    each_line : (ls : List Line) → list_any (λ line. any_below (λ d. marks frame line x (y + d)) (depth_of frame)) ls ≡ in_wide_stroke frame.nib ls (x + frame.region.columns.from) (y + frame.region.rows.from)
-    each_line [] = refl
-    each_line (line ∷ ls) =
-        ap (λ (b : Bool). b || list_any (λ l. any_below (λ d. marks frame l x (y + d)) (depth_of frame)) ls) (row_of_region frame line x y is high)
-        ∙ ap (λ (b : Bool). on_wide_line frame.nib line (pos (x + frame.region.columns.from)) (pos (y + frame.region.rows.from)) || b) (each_line ls)

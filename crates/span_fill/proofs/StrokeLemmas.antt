@@ -19,7 +19,6 @@ use Rattle.span_fill.specs.Spans.{in_span, in_spans}
 use Rattle.span_fill.specs.StrokeRows.{AllAfter, BeginsWideEdge, IsActive, IsPassed, IsWaiting, lines_have, wide_edges_have}
 use Rattle.span_fill.specs.WideEdges.{LiesNear, part_high, part_low}
 use Rattle.span_fill.specs.WideStrokes.{on_wide_line}
-use Rattle.span_fill.specs.declared.line.Line.{Line}
 use Rattle.span_fill.specs.declared.span.Span.{Span}
 use Rattle.span_fill.specs.declared.wide_edge.WideEdge.{WideEdge}
 use Rattle.span_fill.proofs.WideEdgeSeen.{after_past, passed_active, passed_past, waiting_active, waiting_after}

@@ -1,6 +1,6 @@
 -- What a strip at a row says of the row.
 use Rattle.std.proofs.Common.{◌≡◌, ℕ, ◌^◌, ◌≤◌, Bool, true, false, ℤ, pos, negsuc, ◌+ℤ◌, ◌-ℤ◌, ◌≤ℤ◌, ◌<ℤ◌, refl, ap, sym, subst, ◌∙◌, arith}
-use Rattle.std.specs.Prelude.{FitsSigned, ◌↔◌, IsTrue, int_lt, unsigned_abs}
+use Rattle.std.specs.Prelude.{FitsSigned, ◌↔◌, IsTrue, unsigned_abs}
 use Rattle.std.specs.Int.{int_max, int_min, w32, w64}
 use Rattle.std.proofs.lemmas.Int.{ints, by_lt_z, fits_signed_from_abs}
 use Rattle.mapping.specs.Nibs.{IsNib, reach_before, reach_after}
@@ -8,7 +8,7 @@ use Rattle.mapping.specs.declared.nib.Nib.{Nib}
 use Rattle.span_fill.specs.Clips.{IsIn}
 use Rattle.span_fill.specs.MajorLines.{major_of, length_of}
 use Rattle.span_fill.specs.declared.major_line.MajorLine.{MajorLine}
-use Rattle.span_fill.specs.RowSlopes.{row_slope_of, total_of}
+use Rattle.span_fill.specs.RowSlopes.{total_of}
 use Rattle.span_fill.specs.declared.bounds.CoordinateRange.{CoordinateRange}
 use Rattle.span_fill.specs.Strokes.{is_y_major}
 use Rattle.span_fill.specs.WideEdges.{HasColumns, HasRow, HasRows, IsDrawn, IsHull, IsRun, IsAtRow, ReachesRows, wide_edge_row_slope, IsGreater, IsLesser, IsMeet, LiesNear, MissesRow, bottom_of, column_in, end_row, high_over, last_in, low_over, part_high, part_low, top_of}
@@ -18,7 +18,7 @@ use Rattle.span_fill.specs.declared.span.Span.{Span}
 use Rattle.span_fill.specs.declared.wide_edge.WideEdge.{WideEdge}
 use Rattle.span_fill.proofs.CoverLemmas.{covered}
 use Rattle.span_fill.proofs.SeveralRows.{column_is}
-use Rattle.span_fill.proofs.WideLawLemmas.{drawn_x_major, drawn_y_major, x_major_columns, x_major_rows, meet_from, no_pixel, none_reached, y_major_columns, y_major_rows, y_major_some, wide_exact, window_from}
+use Rattle.span_fill.proofs.WideLawLemmas.{drawn_x_major, drawn_y_major, x_major_columns, x_major_rows, meet_from, no_pixel, y_major_columns, y_major_rows, y_major_some, wide_exact, window_from}
 
 -- a number of 32 bits
 pub least_32 : (v : ℤ) → FitsSigned w32 v → negsuc (2 ^ 31) ≤ℤ v

@@ -1,5 +1,5 @@
 -- Rows of bits, a bit for each column.
-use Rattle.std.specs.Prelude.{◌≡◌, ◌==◌, ℕ, ◌+◌, ◌*◌, ◌/◌, ◌%◌, ◌<◌, ◌≤◌, Bool, ◌&&◌, ◌||◌, List, nat_le, nat_lt, not, slice_index_or}
+use Rattle.std.specs.Prelude.{◌≡◌, ◌≢◌, ◌==◌, ℕ, ◌+◌, ◌*◌, ◌/◌, ◌%◌, ◌<◌, ◌≤◌, Bool, ◌&&◌, ◌||◌, List, nat_le, nat_lt, not, slice_index_or}
 use Rattle.std.specs.Int.{bit_at, div_ceil}
 
 -- the number of rows and columns, the words with their bits, and the number of words in a row
@@ -30,6 +30,16 @@ has_capacity rows columns = nat_le (rows * div_ceil columns 64) word_limit
 abbrev pub SetsBits : ℕ → ℕ → ℕ → BitRowsState → BitRowsState → Type 0
 SetsBits row from to old new =
     (x i : ℕ) → x < old.columns → i < old.rows → has_bit new x i ≡ (has_bit old x i || (i == row && (nat_le from x && nat_lt x to)))
+
+-- the bits of the row from column `from` to before `to` are cleared, and the others are unchanged
+abbrev pub ClearsBits : ℕ → ℕ → ℕ → BitRowsState → BitRowsState → Type 0
+ClearsBits row from to old new =
+    (x i : ℕ) → x < old.columns → i < old.rows → has_bit new x i ≡ (has_bit old x i && not (i == row && (nat_le from x && nat_lt x to)))
+
+-- of the row's bits those stay that are set in the other row too, and the other rows are unchanged
+pub record KeepsCommon (row other : ℕ) (old new : BitRowsState) : Type 0 where
+  pub common : (x : ℕ) → x < old.columns → has_bit new x row ≡ (has_bit old x row && has_bit old x other)
+  pub others : (x i : ℕ) → x < old.columns → i < old.rows → i ≢ row → has_bit new x i ≡ has_bit old x i
 
 -- the bits of the row that is `distance` rows further on are joined to each of the first rows, and the other rows are
 -- unchanged

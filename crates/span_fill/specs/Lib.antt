@@ -39,5 +39,6 @@ pub mod BitRows
 pub mod BitRowsInside
 pub mod StrokeMasks
 pub mod StrokeMaskInside
+pub mod MaskCovers
 pub mod MaskFrames
 pub mod MaskMarks

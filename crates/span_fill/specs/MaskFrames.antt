@@ -1,8 +1,8 @@
 -- The rows of a mask for rows of lines.
-use Rattle.std.specs.Prelude.{◌≡◌, ℕ, ◌+◌, ◌-◌, ◌<◌, min, max, ℤ, pos, ◌+ℤ◌, ◌-ℤ◌, Bool, ◌&&◌, nat_eq}
+use Rattle.std.specs.Prelude.{◌≡◌, ℕ, ◌+◌, ◌-◌, ◌<◌, min, max, ℤ, pos, ◌+ℤ◌, ◌-ℤ◌, ◌≤ℤ◌, ◌<ℤ◌, Bool, ◌&&◌, nat_eq, IsTrue}
 use Rattle.mapping.specs.Nibs.{IsNib, reach_after}
 use Rattle.mapping.specs.declared.nib.Nib.{Nib}
-use Rattle.span_fill.specs.Spans.{in_span}
+use Rattle.span_fill.specs.Spans.{in_region, in_span}
 use Rattle.span_fill.specs.StrokeMasks.{IsMaskRegion, height_of, width_of}
 use Rattle.span_fill.specs.WideStrokes.{any_below, on_wide_line, row_of}
 use Rattle.span_fill.specs.declared.line.Line.{Line}
@@ -46,6 +46,16 @@ shared_nib frame = record { x = frame.nib.x; y = spare_of frame + 1 }
 
 abbrev pub shared_row : MaskFrame → ℤ
 shared_row frame = row_at frame (height_of frame.region - 1 + reach_after (spare_of frame + 1))
+
+-- a region has each pixel of the largest surface in some rows of lines
+abbrev pub HasSurfaceRows : MaskFrame → ℕ → ℕ → Region → Type 0
+HasSurfaceRows frame from count region =
+    (x y : ℕ) → x < 8192 → y < 8192 → row_at frame from ≤ℤ pos y → pos y <ℤ row_at frame (from + count) → IsTrue (in_region region x y)
+
+-- a region lies in some rows of lines
+abbrev pub LiesInRows : MaskFrame → ℕ → ℕ → Region → Type 0
+LiesInRows frame from count region =
+    (x y : ℕ) → IsTrue (in_region region x y) → (row_at frame from ≤ℤ pos y) × (pos y <ℤ row_at frame (from + count))
 
 -- these columns are the part of a surface's columns in a region, counted from the region's first column
 abbrev pub IsPartOf : Region → Span → Span → Type 0

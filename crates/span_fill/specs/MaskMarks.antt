@@ -1,6 +1,8 @@
 -- Lines marked in rows of bits, and rows widened.
-use Rattle.std.specs.Prelude.{◌≡◌, ℕ, ◌+◌, ◌*◌, ◌<◌, Bool, false, ◌&&◌, ◌||◌, nat_eq, ◌-ℤ◌, unsigned_abs, List}
-use Rattle.std.specs.List.{list_any}
+use Rattle.std.specs.Prelude.{◌≡◌, ℕ, ◌+◌, ◌*◌, ◌<◌, Bool, false, ◌&&◌, ◌||◌, nat_eq, ◌-ℤ◌, unsigned_abs, ◌≤◌, pos, List}
+use Rattle.mapping.specs.Nibs.{reach_after, reach_before}
+use Rattle.mapping.specs.declared.geometry.Rect.{Rect}
+use Rattle.mapping.specs.declared.nib.Nib.{Nib}
 use Rattle.span_fill.specs.BitRows.{BitRowsState, HasSize, has_bit}
 use Rattle.span_fill.specs.MaskFrames.{first_row, marks, marks_in, mask_row}
 use Rattle.span_fill.specs.Spans.{in_span}
@@ -40,9 +42,20 @@ MarksRows frame line from count = SetsToo frame (λ x i. marks_in frame line fro
 abbrev pub MarksLine : MaskFrame → Line → BitRowsState → BitRowsState → Type 0
 MarksLine frame line = SetsToo frame (λ x i. marks frame line x i)
 
--- what the nib's columns cover along some lines is set
-abbrev pub MarksLines : MaskFrame → List Line → BitRowsState → BitRowsState → Type 0
-MarksLines frame lines = SetsToo frame (λ x i. list_any (λ line. marks frame line x i) lines)
+-- a box of the largest surface
+abbrev pub largest_surface : Rect
+largest_surface = record { l = pos 0; t = pos 0; r = pos 8191; b = pos 8191 }
+
+-- a nib's columns, around the column x, contain the column n
+abbrev pub IsAround : Nib → ℕ → ℕ → Type 0
+IsAround nib x n = (x ≤ n + reach_before nib.x) × (n ≤ x + reach_after nib.x)
+
+-- there are 1 to 64 columns, and all of them are among others
+pub record IsNarrowPart (columns others : Span) : Type 0 where
+  pub first : others.from ≤ columns.from
+  pub last : columns.to ≤ others.to
+  pub some : columns.from < columns.to
+  pub few : columns.to ≤ columns.from + 64
 
 -- each of the first rows has what it and the rows after it had, this many rows in all
 abbrev pub Widens : ℕ → ℕ → BitRowsState → BitRowsState → Type 0

@@ -1,5 +1,5 @@
 -- Numbers of pixels, row by row, and how they move along a line.
-use Rattle.std.specs.Prelude.{◌≡◌, ℕ, ℤ, pos, neg_ℤ, ◌+ℤ◌, ◌-ℤ◌, ◌*ℤ◌, Bool, if◌then◌else◌}
+use Rattle.std.specs.Prelude.{◌≡◌, ℤ, pos, neg_ℤ, ◌+ℤ◌, ◌-ℤ◌, ◌*ℤ◌, Bool, if◌then◌else◌}
 use Rattle.span_fill.specs.MajorLines.{pixel_column, pixel_row}
 use Rattle.span_fill.specs.declared.fixed_walk.FixedWalk.{FixedWalk}
 use Rattle.span_fill.specs.declared.grid.Grid.{Grid}

@@ -42,9 +42,19 @@ width_of region = region.columns.to - region.columns.from
 abbrev pub height_of : Region → ℕ
 height_of region = region.rows.to - region.rows.from
 
+-- the numbers of a span, in order, lie in another span
+pub record IsPartOfSpan (part whole : Span) : Type 0 where
+  pub first : whole.from ≤ part.from
+  pub order : part.from ≤ part.to
+  pub last : part.to ≤ whole.to
+
 -- a mask has memory for the region: for its columns, and for twice its rows
 abbrev pub HasMaskCapacity : Region → Type 0
 HasMaskCapacity region = IsTrue (has_capacity (2 * height_of region) (width_of region))
+
+-- the rows of a region before this one
+abbrev pub rows_before : Region → ℕ → Region
+rows_before region to = record { columns = region.columns; rows = record { from = region.rows.from; to = to } }
 
 -- the span contains the pixel (x, y)
 abbrev pub in_row_span : RowSpan → ℕ → ℕ → Bool

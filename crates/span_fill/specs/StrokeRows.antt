@@ -1,7 +1,6 @@
 -- Strips that are at a row, and strips that wait for their first one.
-use Rattle.std.specs.Prelude.{◌≡◌, ℕ, ◌+◌, ◌<◌, ◌≤◌, ℤ, pos, ◌+ℤ◌, ◌-ℤ◌, ◌≤ℤ◌, ◌<ℤ◌, Bool, true, false, ◌||◌, List, ◌∷◌, drop, length}
+use Rattle.std.specs.Prelude.{◌≡◌, ℕ, ◌+◌, ◌<◌, ◌≤◌, ℤ, pos, ◌≤ℤ◌, ◌<ℤ◌, Bool, true, false, ◌||◌, List, ◌∷◌, drop, length}
 use Rattle.std.specs.List.{All, list_any}
-use Rattle.mapping.specs.Nibs.{reach_before, reach_after}
 use Rattle.mapping.specs.declared.nib.Nib.{Nib}
 use Rattle.span_fill.specs.Spans.{in_spans}
 use Rattle.span_fill.specs.WideEdges.{HasRow, IsAtRow, ReachesRows}

@@ -1,5 +1,5 @@
 -- The fields of a wide line.
-use Rattle.std.specs.Prelude.{ℤ, pos, negsuc, ◌≤ℤ◌}
+use Rattle.std.specs.Prelude.{pos, negsuc, ◌≤ℤ◌}
 use Rattle.mapping.specs.Nibs.{IsNib}
 use Rattle.span_fill.specs.StrokeRows.{IsPassed}
 use Rattle.span_fill.specs.declared.wide_line.WideLine.TheInside.{Inside}

@@ -1,9 +1,11 @@
 //! Rows of bits, in which many pixels can be marked at a time.
 
-ghost use Rattle.std.specs.Prelude.{◌≡◌, ◌+◌, ◌*◌, ◌<◌, ◌≤◌, ℕ, IfOk, IsTrue, false, true};
-ghost use Rattle.span_fill.specs.BitRows.{HasSize, IsNext, JoinsRows, SetsBits, has_bit, has_capacity};
+ghost use Rattle.std.specs.Prelude.{◌≡◌, ◌+◌, ◌*◌, ◌<◌, ◌≤◌, ◌≢◌, ℕ, IfOk, IsTrue, false, true};
+ghost use Rattle.span_fill.specs.BitRows.{ClearsBits, HasSize, IsNext, JoinsRows, KeepsCommon, SetsBits, has_bit, has_capacity, word_limit};
 
-use crate::bit_words::{fill_words, join_words, next_bit, set_bits};
+use crate::bit_words::{
+    clear_bits, fill_words, join_words, keep_common_bits, next_bit, set_bits, set_run,
+};
 use crate::row_error::OutOfMemory;
 use std::alloc::Global;
 use std::marker::Model;
@@ -54,11 +56,14 @@ impl BitRows {
         })
     }
 
-    /// Whether the memory is enough for this many rows and columns.
-    pub(crate) fn has_capacity(&self, rows: u32, columns: u32) -> bool
-        ensures { result ≡ has_capacity rows columns }
+    /// The greatest number of rows of this many columns for which the memory is enough, if each has a word or more.
+    pub(crate) fn room(&self, columns: u32) -> u32
+        ensures capacity { IsTrue (has_capacity result columns) }
+        ensures most { (rows : ℕ) → rows ≤ word_limit → IsTrue (has_capacity rows columns) → rows ≤ result }
+        ensures many { columns ≤ 8192 → 256 ≤ result }
     {
-        rows as usize * (columns as usize).div_ceil(64) <= self.words.len()
+        let stride = (columns as usize).div_ceil(64).max(1);
+        (self.words.len() / stride) as u32
     }
 
     /// Starts with this many rows and columns, and no bit set.
@@ -88,6 +93,48 @@ impl BitRows {
             start + from as usize,
             start + to as usize,
         );
+    }
+
+    /// Sets up to 64 bits of a row, from column `from` on.
+    #[inline]
+    pub(crate) fn set_run(&mut self, row: u32, from: u32, count: u32)
+        requires row { row < self.old.rows }
+        requires some { 1 ≤ count }
+        requires limit { count ≤ 64 }
+        requires columns { from + count ≤ self.old.columns }
+        ensures size { HasSize self.new self.old.rows self.old.columns }
+        ensures bits { SetsBits row from (from + count) self.old self.new }
+    {
+        let start = self.start(row);
+        set_run(&mut self.words[..], start + from as usize, count);
+    }
+
+    /// Clears the bits of a row from column `from` to before `to`.
+    pub(crate) fn clear(&mut self, row: u32, from: u32, to: u32)
+        requires row { row < self.old.rows }
+        requires order { from ≤ to }
+        requires columns { to ≤ self.old.columns }
+        ensures size { HasSize self.new self.old.rows self.old.columns }
+        ensures bits { ClearsBits row from to self.old self.new }
+    {
+        let start = self.start(row);
+        clear_bits(
+            &mut self.words[..],
+            start + from as usize,
+            start + to as usize,
+        );
+    }
+
+    /// Keeps of a row's bits those that are set in another row too.
+    pub(crate) fn keep_common(&mut self, row: u32, other: u32)
+        requires row { row < self.old.rows }
+        requires other { other < self.old.rows }
+        requires apart { row ≢ other }
+        ensures size { HasSize self.new self.old.rows self.old.columns }
+        ensures bits { KeepsCommon row other self.old self.new }
+    {
+        let (from, to) = (row as usize * self.stride, other as usize * self.stride);
+        keep_common_bits(&mut self.words[..], from, to, self.stride);
     }
 
     /// Joins to each of the first rows the row that is `distance` rows further on.

@@ -18,7 +18,7 @@
 //! - What a nib covers as it moves along a line is returned row by row, as one span per row (`WideLine::new`,
 //!   `WideLine::next`).
 //! - What a nib covers in a region as it moves along many lines is returned span by span, each pixel once and no others
-//!   (`StrokeMask::begin`, `StrokeMask::next_span`).
+//!   (`StrokeMask::begin`, `StrokeMask::next_span`). What is cut out isn't returned (`StrokeMask::cut`).
 //! - A line has one pixel for each step along its major axis (`line_law`).
 //! - A nib covers what lies within its reach of a pixel of the line; a nib of one pixel covers the line itself
 //!   (`wide_stroke_law`).
@@ -35,6 +35,7 @@ mod bounds;
 mod clip;
 mod column_table;
 mod counted_row;
+mod covered_columns;
 mod crossed_rows;
 mod crossing;
 mod crossing_moves;
@@ -53,6 +54,7 @@ mod laws;
 mod line;
 mod lone_pair;
 mod major_line;
+mod mask_cover;
 mod mask_frame;
 mod mask_marks;
 mod memory;

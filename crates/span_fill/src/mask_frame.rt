@@ -1,6 +1,6 @@
 //! The rows of a mask for rows of lines.
 
-ghost use Rattle.std.specs.Prelude.{◌≡◌, ◌*◌, ◌<◌, ◌≤◌, pos, negsuc, ◌≤ℤ◌, ◌<ℤ◌};
+ghost use Rattle.std.specs.Prelude.{◌≡◌, ◌+◌, ◌*◌, ◌<◌, ◌≤◌, ℕ, pos, negsuc, ◌≤ℤ◌, ◌<ℤ◌, IsTrue};
 ghost use Rattle.mapping.specs.Nibs.{IsNib};
 ghost use Rattle.span_fill.specs.StrokeMasks.{IsMaskRegion, height_of, width_of};
 ghost use Rattle.span_fill.specs.WideStrokes.{row_of};
@@ -19,7 +19,8 @@ pub(crate) struct MaskFrame {
 }
 
 impl MaskFrame {
-    ghost use Rattle.span_fill.specs.MaskFrames.{IsMaskFrame, IsPartOf, depth_of, first_row, mask_row, row_at, row_count, shared_nib, shared_row, spare_of};
+    ghost use Rattle.span_fill.specs.MaskCovers.{last_row};
+    ghost use Rattle.span_fill.specs.MaskFrames.{HasSurfaceRows, IsMaskFrame, IsPartOf, LiesInRows, depth_of, first_row, mask_row, row_at, row_count, shared_nib, shared_row, spare_of};
 
     /// The number of columns in the region.
     pub(crate) fn width(self) -> u32
@@ -80,6 +81,25 @@ impl MaskFrame {
         self.first_row() + number as i32
     }
 
+    /// Of the largest surface, the part in these rows of lines.
+    pub(crate) fn surface_rows(self, from: u32, count: u32) -> Region
+        requires frame { IsMaskFrame self }
+        requires rows { from + count ≤ row_count self }
+        ensures columns { result.columns.to ≤ 8192 }
+        ensures rows { result.rows.to ≤ 8192 }
+        ensures all { HasSurfaceRows self from count result }
+        ensures no_other { LiesInRows self from count result }
+    {
+        let surface = Span { from: 0, to: 8192 };
+        let first = self.row_at(from);
+        let end = self.row_at(from + count);
+        let rows = surface.between(i64::from(first), i64::from(end));
+        Region {
+            columns: surface,
+            rows,
+        }
+    }
+
     /// How many rows of the mask cover a row of the region.
     pub(crate) fn depth(self) -> u32
         requires { IsMaskFrame self }
@@ -106,6 +126,25 @@ impl MaskFrame {
     {
         row.min(self.height() - 1)
             .max(row.saturating_sub(self.spare()))
+    }
+
+    /// The last row of the mask, which no row of lines has.
+    pub(crate) fn last_row(self) -> u32
+        requires frame { IsMaskFrame self }
+        requires some { 1 ≤ height_of self.region }
+        ensures row { result ≡ last_row self }
+        ensures within { result < 2 * height_of self.region }
+    {
+        2 * self.height() - 1
+    }
+
+    /// After how many marked rows it pays to look for columns that are covered: about as many as words are read then.
+    pub(crate) fn reading_rows(self) -> u32
+        requires frame { IsMaskFrame self }
+        requires some { 1 ≤ height_of self.region }
+    {
+        let rows_read = self.height().div_ceil(self.depth()) + 1;
+        rows_read.saturating_mul(self.width() / 64 + 1)
     }
 
     /// A nib of the same width, which covers at once what the nib's columns cover in all rows of lines that share a row

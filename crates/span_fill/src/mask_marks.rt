@@ -1,50 +1,28 @@
-//! Marking what a nib covers along lines, in rows of bits.
+//! Marking what a nib's columns cover along lines, in rows of bits.
 
-ghost use Rattle.std.specs.Prelude.{◌+◌, ◌-◌, ◌*◌, ◌<◌, ◌≤◌, ◌≤ℤ◌, ◌<ℤ◌};
+ghost use Rattle.std.specs.Prelude.{◌≡◌, ◌↔◌, ◌+◌, ◌-◌, ◌*◌, ◌<◌, ◌≤◌, ◌≤ℤ◌, ◌<ℤ◌, ℕ, pos, IsTrue};
+ghost use Rattle.mapping.specs.Boxes.{HasPoint};
+ghost use Rattle.mapping.specs.Nibs.{IsNib};
 ghost use Rattle.span_fill.specs.BitRows.{HasSize};
+ghost use Rattle.span_fill.specs.Clips.{IsIn};
+ghost use Rattle.span_fill.specs.LineBoxes.{HasLine};
 ghost use Rattle.span_fill.specs.Lines.{HasNearEnds};
 ghost use Rattle.span_fill.specs.MaskFrames.{IsMaskFrame, first_row, row_at, row_count, spare_of};
-ghost use Rattle.span_fill.specs.MaskMarks.{HasRows, HasStroke, IsClear, MarksColumns, MarksLine, MarksLines, MarksRow, MarksRows, Widens};
+ghost use Rattle.span_fill.specs.MaskMarks.{HasRows, IsAround, IsNarrowPart, MarksColumns, MarksLine, MarksRow, MarksRows, Widens, largest_surface};
 ghost use Rattle.span_fill.specs.StrokeMasks.{height_of};
 
+use crate::axes::runs_y_major;
 use crate::bit_rows::BitRows;
 use crate::line::Line;
 use crate::mask_frame::MaskFrame;
-use crate::outline::Outline;
+use crate::pixel::Pixel;
 use crate::span::Span;
+use crate::steps::LineSteps;
 use crate::wide_line::{WideLine, WideRow};
+use mapping::{Nib, Point, reach_after, reach_before};
 
-/// Marks what the nib covers in the region along the lines of an outline. All bits must be clear.
-pub(crate) fn cover<O: Outline>(bits: &mut BitRows, outline: &mut O, frame: MaskFrame)
-    requires frame { IsMaskFrame frame }
-    requires size { HasRows frame bits.old }
-    requires clear { IsClear frame bits.old }
-    ensures stroke { HasStroke frame (O.lines outline.old) bits.new }
-    ensures size { HasSize bits.new bits.old.rows bits.old.columns }
-{
-    let height = frame.height();
-    if height == 0 {
-        return;
-    }
-    mark_lines(bits, outline, frame);
-    widen(bits, height, frame.depth());
-}
-
-/// Marks what the nib's columns cover along the lines of an outline.
-fn mark_lines<O: Outline>(bits: &mut BitRows, outline: &mut O, frame: MaskFrame)
-    requires frame { IsMaskFrame frame }
-    requires size { HasRows frame bits.old }
-    requires some { 1 ≤ height_of frame.region }
-    ensures lines { MarksLines frame (O.lines outline.old) bits.old bits.new }
-    ensures size { HasSize bits.new bits.old.rows bits.old.columns }
-{
-    while let Some(line) = outline.next_line() {
-        mark_line(bits, line, frame);
-    }
-}
-
-/// Marks what the nib's columns cover along a line.
-fn mark_line(bits: &mut BitRows, line: Line, frame: MaskFrame)
+/// Marks what the nib's columns cover along a line. Returns how many rows were marked one by one.
+pub(crate) fn mark_line(bits: &mut BitRows, line: Line, frame: MaskFrame) -> u32
     requires frame { IsMaskFrame frame }
     requires size { HasRows frame bits.old }
     requires some { 1 ≤ height_of frame.region }
@@ -54,19 +32,42 @@ fn mark_line(bits: &mut BitRows, line: Line, frame: MaskFrame)
 {
     let spare = frame.spare();
     if spare == 0 {
-        mark_rows(bits, line, frame, 0, frame.row_count());
-        return;
+        return mark_rows(bits, line, frame, 0, frame.row_count());
     }
     // The rows that share one are marked at once, by a nib of this many rows: the cost of a y-major line depends on the
     // mask's rows, but not on the nib's.
     let before = frame.height() - 1;
-    mark_rows(bits, line, frame, 0, before);
+    let first = mark_rows(bits, line, frame, 0, before);
     mark_shared(bits, line, frame);
-    mark_rows(bits, line, frame, before + 1 + spare, before);
+    let last = mark_rows(bits, line, frame, before + 1 + spare, before);
+    first.wrapping_add(last)
 }
 
-/// Marks what the nib's columns cover in some rows of lines.
-fn mark_rows(bits: &mut BitRows, line: Line, frame: MaskFrame, from: u32, count: u32)
+/// Marks what the nib's columns cover in some rows of lines. Returns how many of them were marked.
+pub(crate) fn mark_rows(
+    bits: &mut BitRows,
+    line: Line,
+    frame: MaskFrame,
+    from: u32,
+    count: u32,
+) -> u32
+    requires frame { IsMaskFrame frame }
+    requires size { HasRows frame bits.old }
+    requires some { 1 ≤ height_of frame.region }
+    requires near { HasNearEnds line }
+    requires rows { from + count ≤ row_count frame }
+    ensures rows { MarksRows frame line from count bits.old bits.new }
+    ensures size { HasSize bits.new bits.old.rows bits.old.columns }
+{
+    if is_steep_inside(line) {
+        mark_steps(bits, line, frame, from, count)
+    } else {
+        mark_wide_rows(bits, line, frame, from, count)
+    }
+}
+
+/// The same, row by row, for any line.
+fn mark_wide_rows(bits: &mut BitRows, line: Line, frame: MaskFrame, from: u32, count: u32) -> u32
     requires frame { IsMaskFrame frame }
     requires size { HasRows frame bits.old }
     requires some { 1 ≤ height_of frame.region }
@@ -81,8 +82,67 @@ fn mark_rows(bits: &mut BitRows, line: Line, frame: MaskFrame, from: u32, count:
         frame.row_at(from),
         frame.row_at(from + count),
     );
+    let mut marked = 0_u32;
     while let Some(row) = rows.next() {
         mark_row(bits, row, frame);
+        marked = marked.wrapping_add(1);
+    }
+    marked
+}
+
+/// The same, step by step, for a line within the largest surface. A y-major line has one pixel in each row, so that this
+/// takes fewer instructions.
+fn mark_steps(bits: &mut BitRows, line: Line, frame: MaskFrame, from: u32, count: u32) -> u32
+    requires frame { IsMaskFrame frame }
+    requires size { HasRows frame bits.old }
+    requires some { 1 ≤ height_of frame.region }
+    requires near { HasNearEnds line }
+    requires inside { HasLine largest_surface line }
+    requires rows { from + count ≤ row_count frame }
+    ensures rows { MarksRows frame line from count bits.old bits.new }
+    ensures size { HasSize bits.new bits.old.rows bits.old.columns }
+{
+    let region = frame.surface_rows(from, count);
+    let mut steps = LineSteps::new(line, region);
+    let mut marked = 0_u32;
+    while let Some(pixel) = steps.next() {
+        mark_row(bits, row_around(pixel, frame.nib), frame);
+        marked = marked.wrapping_add(1);
+    }
+    marked
+}
+
+/// Whether a line is y-major, and both its ends lie within the largest surface.
+fn is_steep_inside(line: Line) -> bool
+    ensures { IsTrue result → HasLine largest_surface line }
+{
+    is_inside(line.from) && is_inside(line.to) && runs_y_major(line)
+}
+
+/// Whether a point lies within the largest surface.
+fn is_inside(point: Point) -> bool
+    ensures { IsTrue result → HasPoint largest_surface point }
+{
+    0 <= point.x && point.x <= 8191 && 0 <= point.y && point.y <= 8191
+}
+
+/// The columns that a nib's columns cover around a pixel.
+#[inline]
+fn row_around(pixel: Pixel, nib: Nib) -> WideRow
+    requires nib { IsNib nib }
+    requires x { pixel.x < 8192 }
+    requires y { pixel.y < 8192 }
+    ensures row { result.y ≡ pos pixel.y }
+    ensures columns { (n : ℕ) → IsIn result.columns n ↔ IsAround nib pixel.x n }
+{
+    let before = reach_before(nib.x) as u32;
+    let after = reach_after(nib.x) as u32;
+    WideRow {
+        y: pixel.y as i32,
+        columns: Span {
+            from: pixel.x.saturating_sub(before),
+            to: pixel.x + after + 1,
+        },
     }
 }
 
@@ -101,7 +161,7 @@ fn mark_row(bits: &mut BitRows, row: WideRow, frame: MaskFrame)
 }
 
 /// Marks what the nib's columns cover in the rows of lines that share a row of the mask.
-fn mark_shared(bits: &mut BitRows, line: Line, frame: MaskFrame)
+pub(crate) fn mark_shared(bits: &mut BitRows, line: Line, frame: MaskFrame)
     requires frame { IsMaskFrame frame }
     requires size { HasRows frame bits.old }
     requires some { 1 ≤ height_of frame.region }
@@ -117,7 +177,8 @@ fn mark_shared(bits: &mut BitRows, line: Line, frame: MaskFrame)
     mark_columns(bits, shared.columns, frame, frame.height() - 1);
 }
 
-/// Marks columns of a surface in a row of the mask.
+/// Marks columns of a surface in a row of the mask. Few columns that lie within the region are set at once.
+#[inline]
 fn mark_columns(bits: &mut BitRows, columns: Span, frame: MaskFrame, row: u32)
     requires frame { IsMaskFrame frame }
     requires size { HasRows frame bits.old }
@@ -125,12 +186,27 @@ fn mark_columns(bits: &mut BitRows, columns: Span, frame: MaskFrame, row: u32)
     ensures columns { MarksColumns frame columns row bits.old bits.new }
     ensures size { HasSize bits.new bits.old.rows bits.old.columns }
 {
+    let seen = frame.region.columns;
+    if is_narrow_part(columns, seen) {
+        bits.set_run(row, columns.from - seen.from, columns.to - columns.from);
+        return;
+    }
     let part = frame.columns_of(columns);
     bits.set(row, part.from, part.to);
 }
 
+/// Whether there are 1 to 64 columns, all of them among others.
+fn is_narrow_part(columns: Span, others: Span) -> bool
+    ensures { IsTrue result → IsNarrowPart columns others }
+{
+    others.from <= columns.from
+        && columns.to <= others.to
+        && columns.from < columns.to
+        && columns.to - columns.from <= 64
+}
+
 /// Joins to each of the first rows the rows after it, `depth` rows in all.
-fn widen(bits: &mut BitRows, height: u32, depth: u32)
+pub(crate) fn widen(bits: &mut BitRows, height: u32, depth: u32)
     requires some { 1 ≤ depth }
     requires depth { depth ≤ height }
     requires height { height ≤ 8192 }

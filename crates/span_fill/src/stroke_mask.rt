@@ -1,12 +1,13 @@
 //! What a nib covers along many lines, as a mask of bits.
 
-ghost use Rattle.std.specs.Prelude.{◌≡◌, ◌↔◌, ℕ, ◌<◌, false, IsTrue, IfOk};
+ghost use Rattle.std.specs.Prelude.{◌≡◌, ◌↔◌, ◌&&◌, ◌+◌, ℕ, ◌<◌, ◌≤◌, false, not, IsTrue, IfOk};
+ghost use Rattle.span_fill.specs.Spans.{in_region};
 ghost use Rattle.mapping.specs.Nibs.{IsNib};
-ghost use Rattle.span_fill.specs.StrokeMasks.{GivesRun, GivesSpan, GivesSpanOfRow, HasMaskCapacity, HasStrokeToCome, IsMaskRegion, to_come};
+ghost use Rattle.span_fill.specs.StrokeMasks.{GivesRun, GivesSpan, GivesSpanOfRow, HasMaskCapacity, HasStrokeToCome, IsMaskRegion, IsPartOfSpan, in_row_span, rows_before, to_come};
 
 use crate::bit_rows::BitRows;
+use crate::mask_cover::cover;
 use crate::mask_frame::MaskFrame;
-use crate::mask_marks::cover;
 use crate::outline::Outline;
 use crate::row_error::OutOfMemory;
 use crate::span::{Region, Span};
@@ -72,16 +73,27 @@ impl StrokeMask {
         })
     }
 
-    /// Whether a region is small enough.
-    pub fn has_capacity(&self, region: Region) -> bool
+    /// The first rows of a region, as many as there is memory for.
+    pub fn part_of(&self, region: Region) -> Region
         requires { IsMaskRegion region }
-        ensures { IsTrue result ↔ HasMaskCapacity region }
+        ensures columns { result.columns ≡ region.columns }
+        ensures first { result.rows.from ≡ region.rows.from }
+        ensures last { result.rows.to ≤ region.rows.to }
+        ensures region { IsMaskRegion result }
+        ensures capacity { HasMaskCapacity result }
+        ensures most { (to : ℕ) → to ≤ region.rows.to → HasMaskCapacity (rows_before region to) → to ≤ result.rows.to }
+        ensures many { result.rows.to < region.rows.to → result.rows.from + 128 ≤ result.rows.to }
+        ensures some { region.rows.from < region.rows.to → result.rows.from < result.rows.to }
     {
-        let frame = MaskFrame {
-            nib: Nib::ONE,
-            region,
+        let count = self.bits.room(region.columns.to - region.columns.from) / 2;
+        let rows = Span {
+            from: region.rows.from,
+            to: region.rows.to.min(region.rows.from + count),
         };
-        self.bits.has_capacity(2 * frame.height(), frame.width())
+        Region {
+            columns: region.columns,
+            rows,
+        }
     }
 
     /// Starts with what a nib covers in a region along the lines of an outline. Takes all of the lines, unless the
@@ -99,6 +111,49 @@ impl StrokeMask {
         self.region = region;
         self.row = region.rows.from;
         self.column = region.columns.from;
+    }
+
+    /// Takes away all remaining pixels in a part of the surface.
+    pub fn cut(&mut self, hidden: Region)
+        ensures region { self.new.region ≡ self.old.region }
+        ensures rest { (x y : ℕ) → to_come self.new x y ≡ (to_come self.old x y && not (in_region hidden x y)) }
+    {
+        let (own, columns, rows) = (self.region, hidden.columns, hidden.rows);
+        self.cut_rows(Region {
+            columns: own
+                .columns
+                .between(i64::from(columns.from), i64::from(columns.to)),
+            rows: own.rows.between(i64::from(rows.from), i64::from(rows.to)),
+        });
+    }
+
+    /// Takes away all remaining pixels in a part of the region.
+    fn cut_rows(&mut self, part: Region)
+        requires columns { IsPartOfSpan part.columns self.old.region.columns }
+        requires rows { IsPartOfSpan part.rows self.old.region.rows }
+        ensures region { self.new.region ≡ self.old.region }
+        ensures rest { (x y : ℕ) → to_come self.new x y ≡ (to_come self.old x y && not (in_region part x y)) }
+    {
+        for y in part.rows.from..part.rows.to {
+            self.cut_span(RowSpan {
+                y,
+                columns: part.columns,
+            });
+        }
+    }
+
+    /// Takes away all remaining pixels in a span of the region.
+    fn cut_span(&mut self, span: RowSpan)
+        requires columns { IsPartOfSpan span.columns self.old.region.columns }
+        requires first { self.old.region.rows.from ≤ span.y }
+        requires last { span.y < self.old.region.rows.to }
+        ensures region { self.new.region ≡ self.old.region }
+        ensures rest { (x y : ℕ) → to_come self.new x y ≡ (to_come self.old x y && not (in_row_span span x y)) }
+    {
+        let start = self.region.columns.from;
+        let row = span.y - self.region.rows.from;
+        self.bits
+            .clear(row, span.columns.from - start, span.columns.to - start);
     }
 
     /// The next span, in the order of rows and columns, or `None` after the last one.

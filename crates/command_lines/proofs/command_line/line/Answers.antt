@@ -1,11 +1,12 @@
 -- What the words ask for follows from what clap finds in them.
 use Rattle.std.proofs.Common.{◌≡◌, ◌∙◌, Bool, List, [], Option, Result, Ok, Err, IfErr, IfSome, IsSome, IsErrAnd, ap, codes, false, inl, inr, subst, sym, true}
 use Rattle.clap.specs.Faults.{fault_of, is_simple_and_free}
-use Rattle.clap.specs.Words.{App, Row, Text, app_of, is_simple, kind_of, subcommand_of, subcommand_rows_of, takes}
+use Rattle.clap.specs.Words.{App, HasKind, IsAmong, Kinds, Row, Text, app_of, is_simple, kind_of, subcommand_of, subcommand_rows_of, takes}
 use Rattle.clap.specs.declared.error.Error.{Error}
-use Rattle.clap.specs.declared.error.kind.ErrorKind.TheVariants.{OutOfMemory}
+use Rattle.clap.specs.declared.error.kind.ErrorKind.TheVariants.{DisplayHelp, OutOfMemory}
 use Rattle.command_lines.specs.Asked.{IsFound}
 use Rattle.command_lines.specs.CommandLine.{IsRightCommand, metaplay_app, texts_of}
+use Rattle.command_lines.specs.HelpWords.{AsksHelp}
 use Rattle.command_lines.specs.InfoWords.{AreAccepted, AreCommandWords, AsksInfoOnce, IsOther}
 use Rattle.command_lines.specs.declared.asked.Asked.{Asked}
 use Rattle.command_lines.proofs.InfoLemmas.{command_words_found, command_words_taken, few_texts}
@@ -74,3 +75,15 @@ returns-in-Some-clause-refused c =
     let app : app_of c.in_ok-command.command ≡ metaplay_app = c.in_ok-command.ensures in
     let faultless : fault_of (app_of c.in_ok-command.command) (texts_of c.args.words.now) ≡ [] = c.in_ok-matches.ensures.kinds (ap is_simple_and_free app) in
     none_wrong (texts_of c.args.words.now) (subst (λ (a : App). fault_of a (texts_of c.args.words.now) ≡ []) app faultless)
+
+-- an error that is help is among what clap may answer
+is_asked : (kinds : Kinds) (e : Error) → HasKind kinds e → kind_of e ≡ DisplayHelp → IsAmong DisplayHelp kinds
+is_asked kinds e (inl memory) help = cc
+is_asked kinds e (inr among) help = rw help at among
+
+pub returns-in_err-matches-clause-help : goal.returns-in_err-matches-clause-help
+returns-in_err-matches-clause-help c =
+    let app : app_of c.in_ok-command.command ≡ metaplay_app = c.in_ok-command.ensures in
+    let among : kind_of c.in_err-matches.field-0.0 ≡ DisplayHelp → AsksHelp (texts_of c.args.words.now) = λ help.
+    is_asked _ c.in_err-matches.field-0.0 (subst (λ (a : App). HasKind (fault_of a (texts_of c.args.words.now)) c.in_err-matches.field-0.0) app (c.in_err-matches.ensures.kinds (ap is_simple_and_free app))) help in
+    passed_up c.from_residual-in_err-matches.result c.in_err-matches.field-0.0 (λ (error : Error). kind_of error ≡ DisplayHelp → AsksHelp (texts_of c.args.words.now)) c.from_residual-in_err-matches.ensures.1 among

@@ -13,3 +13,6 @@ returns-in-Ok-clause-cannot_write g c = λ e. holds_of_some _ _ _ _ (c.run_words
 
 pub returns-in-Ok-clause-flushed : goal.returns-in-Ok-clause-flushed
 returns-in-Ok-clause-flushed g c = λ e. holds_of_some _ _ _ _ (c.run_words.ensures.flushed e)
+
+pub returns-in-Ok-clause-rejected : goal.returns-in-Ok-clause-rejected
+returns-in-Ok-clause-rejected g c = λ e. holds_of_some _ _ _ _ (c.run_words.ensures.rejected e)

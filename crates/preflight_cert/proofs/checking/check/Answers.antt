@@ -19,6 +19,12 @@ by_records : (file old new : List ℕ) (o again : OpenedValue) (rules : Rules) �
     → new ≡ record_bytes again.format file
 by_records file old new o again rules same e records = same ∙ records ∙ ap (λ (it : OpenedValue). record_bytes it.format file) (sym e)
 
+-- the rules of the file that is opened again are those that were read
+pub check_opened-requires : goal.check_opened-requires
+check_opened-requires c =
+    let read = c.in-Ok-read.ensures.rules in
+    record { ruled = read ∙ sym (ap (λ o. o.rules) c.by.ensures.value ∙ ap in_force read ∙ read_in_force c.args.certificate.now) }
+
 pub returns-in-Ok-check_opened-clause-rules : goal.returns-in-Ok-check_opened-clause-rules
 returns-in-Ok-check_opened-clause-rules c =
     let bytes = c.args.certificate.now in

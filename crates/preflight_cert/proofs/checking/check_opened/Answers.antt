@@ -17,6 +17,7 @@ invariant_of-result c =
     let o = opened_of c.args.opened in
     let state = c.new-machine.ensures.state ∙ ap (λ (kind : TableKind). start_state c.args.opened.rules (map_numbers c.args.opened.start_map) kind) c.new-table.ensures.kind in
     record {
+      ruled = c.requires.ruled;
       checked = cleared c.content_law.ensures o c.args.opened.records.now (certificate_of c.args.certificate)
           (records_accepted (source_content c.source.result) o c.args.opened.records.now (certificate_of c.args.certificate) c.new-machine.result c.source.ensures.content
           (record { state = state; surface = c.new-machine.ensures.surface ∙ c.new-place.ensures.surface; needs = c.new-machine.ensures.needs })

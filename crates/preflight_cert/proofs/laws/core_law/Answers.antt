@@ -3,4 +3,4 @@ use Rattle.preflight_cert.proofs.CoreLemmas.{core_laws}
 use Rattle.preflight_cert.proofs.laws.core_law.Goals as goal
 
 pub returns : goal.returns
-returns c = core_laws
+returns c = core_laws c.text_law.ensures

@@ -1,7 +1,7 @@
 -- If both ends lie within the spans, so do all pixels.
 use Rattle.std.proofs.Common.{FitsSigned, arith, refl, rules}
 use Rattle.std.specs.Int.{w32}
-use Rattle.std.proofs.lemmas.Int.{ints, to_z-of_z}
+use Rattle.std.proofs.lemmas.Int.{to_z-of_z}
 use Rattle.span_fill.proofs.ClipLemmas.{across_contained, along_contained}
 use Rattle.span_fill.proofs.StepLemmas.{along_within}
 use Rattle.span_fill.proofs.clip.clipped.Goals as goal

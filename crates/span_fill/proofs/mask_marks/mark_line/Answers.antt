@@ -11,4 +11,4 @@ returns-then-spare-eq0-clause-line c = λ x i wide high.
 pub returns-clause-line : goal.returns-clause-line
 returns-clause-line c = λ x i wide high.
     three_parts c.args.frame c.args.line (has_bit c.args.bits.now x i) (c.height-before.result - 1) c.spare-spare.result x i (ap (λ n. n - 1) c.height-before.ensures.height) c.spare-spare.ensures c.requires.some c.if-spare-eq0.false
-    (c.mark_rows-2.ensures.rows x i wide high) (c.mark_shared.ensures.rows x i wide high) (c.mark_rows-3.ensures.rows x i wide high)
+    (c.mark_rows-first.ensures.rows x i wide high) (c.mark_shared.ensures.rows x i wide high) (c.mark_rows-last.ensures.rows x i wide high)

@@ -1,5 +1,5 @@
 -- The strips that go on have what the lines had.
-use Rattle.std.proofs.Common.{◌≡◌, List, length, drop, ◌++◌, take, ap, ◌∙◌, arith}
+use Rattle.std.proofs.Common.{◌≡◌, length, drop, ap, ◌∙◌, arith}
 use Rattle.std.proofs.lemmas.List.{take_at}
 use Rattle.span_fill.specs.StrokeRows.{wide_edges_have}
 use Rattle.span_fill.proofs.StrokeLemmas.{same_lines}

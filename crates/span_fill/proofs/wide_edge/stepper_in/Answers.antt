@@ -1,7 +1,7 @@
 -- The total is the line's.
-use Rattle.std.proofs.Common.{rules, FitsSigned, arith}
+use Rattle.std.proofs.Common.{rules, FitsSigned}
 use Rattle.std.specs.Int.{w64}
-use Rattle.std.proofs.lemmas.Int.{ints, to_z-of_z}
+use Rattle.std.proofs.lemmas.Int.{to_z-of_z}
 use Rattle.span_fill.proofs.TotalLemmas.{near_small}
 use Rattle.span_fill.proofs.wide_edge.stepper_in.Goals as goal
 

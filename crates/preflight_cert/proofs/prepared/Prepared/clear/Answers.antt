@@ -4,7 +4,7 @@ use Rattle.preflight_cert.proofs.prepared.Prepared.clear.Goals as goal
 
 pub invariant_of-result : goal.invariant_of-result
 invariant_of-result c =
-    record { checked = c.args.self.now.cleared (certificate_of c.in-Ok.certificate) (search rules); counted = c.args.self.now.counted }
+    record { ruled = search rules; checked = c.args.self.now.cleared (certificate_of c.in-Ok.certificate) (search rules); counted = c.args.self.now.counted }
 
 pub returns-clause-sound : goal.returns-clause-sound
 returns-clause-sound c =
@@ -15,6 +15,7 @@ returns-clause-sound c =
       records = self.records;
       notes = self.notes;
       uses = self.uses;
+      ruled = search rules;
       checked = self.cleared (certificate_of c.in-Ok.certificate) (search rules);
       counted = self.counted;
     })

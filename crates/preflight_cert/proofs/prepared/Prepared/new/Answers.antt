@@ -13,7 +13,9 @@ invariant_of-result c =
     let opened = c.in-Ok.opened in
     let o = opened_of opened in
     let answer = c.in-Ok-prepare_opened.ensures.accepted in
+    let rules = c.opening_law.ensures.in_force c.args.rules c.args.file.now o c.in-Ok.ensures.opened in
     record {
+      ruled = c.in-Ok-prepare_opened.ensures.rules ∙ ap in_force rules ∙ in_force_twice c.args.rules ∙ sym rules;
       readable = accepted_reads _ o opened.records.now answer;
       cleared = cleared_if_read c.content_law.ensures _ o opened.records.now answer;
       counted = c.in-Ok-prepare_opened.ensures.counts;

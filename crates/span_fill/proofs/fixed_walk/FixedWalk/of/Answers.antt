@@ -1,7 +1,7 @@
 -- The remainders are fractions, rounded up by less than a part.
 use Rattle.std.proofs.Common.{◌≡◌, ◌^◌, ℤ, pos, ◌+ℤ◌, ◌*ℤ◌, ◌∙◌, FitsSigned, to_z, of_z, ap, arith, refl, rules}
 use Rattle.std.specs.Int.{w32, w64}
-use Rattle.std.proofs.lemmas.Int.{ints, to_z-of_z}
+use Rattle.std.proofs.lemmas.Int.{to_z-of_z}
 use Rattle.span_fill.proofs.fixed_walk.FixedWalk.of.Goals as goal
 
 -- a number in its 32 bits, and in its 64

@@ -1,5 +1,5 @@
 -- The strips are those of the lines.
-use Rattle.std.proofs.Common.{◌≡◌, length, ap, sym, ◌∙◌, arith}
+use Rattle.std.proofs.Common.{length, ap, sym, ◌∙◌, arith}
 use Rattle.mapping.specs.declared.nib.Nib.{Nib}
 use Rattle.span_fill.specs.StrokeRows.{lines_have}
 use Rattle.span_fill.proofs.row_buf.RowBuf.begin_kept_stroke.Goals as goal

@@ -1,5 +1,5 @@
 -- The only span lies between the two edges.
-use Rattle.std.proofs.Common.{◌≡◌, ◌<◌, ◌&&◌, ℕ, true, List, [], ◌∷◌, ap, length, get_or, refl, rules, subst, sym, ◌∙◌, arith}
+use Rattle.std.proofs.Common.{◌≡◌, ◌&&◌, ℕ, true, List, ap, get_or, rules, subst, sym, ◌∙◌, arith}
 use Rattle.std.proofs.lemmas.List.{get_or_read}
 use Rattle.span_fill.specs.LonePairs.{is_between, is_lone_pair}
 use Rattle.span_fill.specs.RowFields.{IsFilling}

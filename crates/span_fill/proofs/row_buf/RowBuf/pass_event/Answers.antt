@@ -8,7 +8,7 @@ use Rattle.span_fill.specs.RowState.{IsFillingWork, RowState}
 use Rattle.span_fill.specs.declared.edge.Edge.{Edge}
 use Rattle.span_fill.proofs.EventLemmas.{quiet_above}
 use Rattle.span_fill.proofs.FillLemmas.{all_can_move, edges_near}
-use Rattle.span_fill.proofs.RowLemmas.{filling_goes_on, filling_steps, unused_above}
+use Rattle.span_fill.proofs.RowLemmas.{filling_steps}
 use Rattle.span_fill.proofs.StrokingLemmas.{not_both}
 use Rattle.span_fill.proofs.row_buf.RowBuf.pass_event.Goals as goal
 

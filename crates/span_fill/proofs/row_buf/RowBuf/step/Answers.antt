@@ -1,14 +1,9 @@
 -- The edges that cross the next row.
-use Rattle.std.proofs.Common.{◌+◌, ◌<◌, false, List, length, map, ap, subst, sym, ◌∙◌, arith, refl}
+use Rattle.std.proofs.Common.{◌+◌, ◌<◌, subst, sym, ◌∙◌, arith, refl}
 use Rattle.std.proofs.lemmas.Bool.{false≢true}
-use Rattle.std.specs.List.Sorted.{IsNonDecreasingBy}
-use Rattle.std.proofs.lemmas.List.Elements.{All-filter}
-use Rattle.span_fill.specs.Edges.{EdgeCanMove, edge_first_row, goes_to, moved}
 use Rattle.span_fill.specs.RowState.{IsFillingWork, RowState}
-use Rattle.span_fill.specs.declared.edge.Edge.{Edge}
-use Rattle.span_fill.proofs.EventLemmas.{quiet_above}
 use Rattle.span_fill.proofs.FillLemmas.{all_can_move, edges_near}
-use Rattle.span_fill.proofs.RowLemmas.{filling_goes_on, filling_steps, unused_above}
+use Rattle.span_fill.proofs.RowLemmas.{filling_goes_on, unused_above}
 use Rattle.span_fill.proofs.StrokingLemmas.{not_both}
 use Rattle.span_fill.proofs.row_buf.RowBuf.step.Goals as goal
 

@@ -1,5 +1,5 @@
 -- The steps that are within the region are all, and the first is on the surface.
-use Rattle.std.proofs.Common.{◌≡◌, ℕ, ◌+◌, ◌^◌, ◌<◌, ◌≤◌, Bool, ℤ, arith}
+use Rattle.std.proofs.Common.{◌≡◌, ◌+◌, ◌^◌, ◌<◌, ◌≤◌, Bool, ℤ, arith}
 use Rattle.std.proofs.lemmas.Int.{ints}
 use Rattle.span_fill.specs.Axis.{IsPlace}
 use Rattle.span_fill.specs.MajorLines.{AreStepsWithin, IsMajorLine, IsOn, across_span, along_span, length_of, major_of}

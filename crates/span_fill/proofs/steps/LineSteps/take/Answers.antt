@@ -1,14 +1,14 @@
 -- The step here, and the one behind it.
-use Rattle.std.proofs.Common.{◌≡◌, ℕ, suc, ◌+◌, ◌^◌, ◌<◌, ◌≤◌, Bool, ℤ, pos, ◌+ℤ◌, ◌*ℤ◌, ◌≤ℤ◌, ◌<ℤ◌, ◌∙◌, ap, arith, refl, rules, subst, sym, FitsSigned, to_z, of_z}
+use Rattle.std.proofs.Common.{◌≡◌, ℕ, suc, ◌^◌, ◌<◌, ◌≤◌, ℤ, pos, ◌+ℤ◌, ◌*ℤ◌, ◌≤ℤ◌, ◌<ℤ◌, ◌∙◌, ap, arith, refl, rules, subst, sym, FitsSigned, to_z, of_z}
 use Rattle.std.specs.Int.{w32, w64}
 use Rattle.std.proofs.lemmas.Int.{ints, to_z-of_z}
 use Rattle.mapping.specs.Limits.{IsWithin}
-use Rattle.span_fill.specs.FixedWalks.{CanWalk, IsFixed}
+use Rattle.span_fill.specs.FixedWalks.{CanWalk}
 use Rattle.span_fill.specs.MajorLines.{pixel_column, pixel_row}
 use Rattle.span_fill.specs.Numberings.{number_of}
 use Rattle.span_fill.specs.StepsInside.{AreSteps}
 use Rattle.span_fill.specs.declared.steps.LineSteps.TheInside.{Inside}
-use Rattle.span_fill.proofs.FixedWalkLemmas.{Advances, HasNext, advances, few_after, few_steps, fraction_below, gain_small, whole_is}
+use Rattle.span_fill.proofs.FixedWalkLemmas.{Advances, advances, few_after, few_steps, fraction_below, gain_small, whole_is}
 use Rattle.span_fill.proofs.NumberingLemmas.{near_numbers, number_across, renumbered}
 use Rattle.span_fill.proofs.StepsLemmas.{here_can_walk, here_pixel, next_way}
 use Rattle.span_fill.proofs.steps.LineSteps.take.Goals as goal

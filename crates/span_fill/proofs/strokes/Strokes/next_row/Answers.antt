@@ -1,7 +1,6 @@
 -- The row's spans are those of the strips that have it, and the others go on waiting.
-use Rattle.std.proofs.Common.{pos, ◌+◌, ◌+ℤ◌, drop, length, ap, ◌∙◌, arith}
+use Rattle.std.proofs.Common.{pos, drop, length, ap, ◌∙◌, arith}
 use Rattle.span_fill.specs.Spans.{in_spans}
-use Rattle.span_fill.specs.StrokeRows.{wide_edges_have}
 use Rattle.span_fill.specs.Stroking.{strokes_have}
 use Rattle.span_fill.proofs.StrokeLemmas.{wait_on}
 use Rattle.span_fill.proofs.StrokingLemmas.{in_spans-sorted, row_of_same, row_of_wide_edges}

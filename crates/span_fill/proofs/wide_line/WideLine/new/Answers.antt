@@ -1,7 +1,7 @@
 -- The strip that begins in the range stands at its first row.
-use Rattle.std.proofs.Common.{rules, FitsSigned, ap, sym, subst, ◌∙◌, ◌≤ℤ◌, ◌<ℤ◌, arith}
+use Rattle.std.proofs.Common.{rules, FitsSigned}
 use Rattle.std.specs.Int.{w32}
-use Rattle.std.proofs.lemmas.Int.{ints, to_z-of_z}
+use Rattle.std.proofs.lemmas.Int.{to_z-of_z}
 use Rattle.span_fill.proofs.WideLineLemmas.{all_rows, begun_line, no_rows, unseen_line}
 use Rattle.span_fill.proofs.wide_line.WideLine.new.Goals as goal
 

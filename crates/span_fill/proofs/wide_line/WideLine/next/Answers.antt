@@ -1,7 +1,7 @@
 -- Without a row to come the line stays what it is.
-use Rattle.std.proofs.Common.{rules, FitsSigned, refl, arith}
+use Rattle.std.proofs.Common.{rules, FitsSigned, refl}
 use Rattle.std.specs.Int.{w32}
-use Rattle.std.proofs.lemmas.Int.{ints, to_z-of_z}
+use Rattle.std.proofs.lemmas.Int.{to_z-of_z}
 use Rattle.mapping.specs.TestLaws.{int_le-true}
 use Rattle.span_fill.proofs.wide_line.WideLine.next.Goals as goal
 

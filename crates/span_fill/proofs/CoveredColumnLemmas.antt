@@ -1,0 +1,81 @@
+-- The columns that a nib covers along a line, of all of it and of some of its rows.
+use Rattle.std.proofs.Common.{◌≡◌, ℕ, ◌+◌, ◌<◌, true, ℤ, pos, ◌+ℤ◌, ◌-ℤ◌, ◌≤ℤ◌, ◌<ℤ◌, arith, ◌∙◌}
+use Rattle.std.proofs.lemmas.Int.{ints, by_lt_z}
+use Rattle.mapping.specs.Nibs.{IsNib, reach_after, reach_before}
+use Rattle.span_fill.specs.MaskCovers.{is_in_region, is_in_rows, tall_nib, tall_row}
+use Rattle.span_fill.specs.MaskFrames.{row_at}
+use Rattle.span_fill.specs.Spans.{in_span}
+use Rattle.span_fill.specs.StrokeMasks.{height_of}
+use Rattle.span_fill.specs.Strokes.{on_line}
+use Rattle.span_fill.specs.WideLines.{HasAllRows, TakesRow, WideLineState}
+use Rattle.span_fill.specs.WideStrokes.{on_wide_line, row_of}
+use Rattle.span_fill.specs.declared.line.Line.{Line}
+use Rattle.span_fill.specs.declared.mask_frame.MaskFrame.{MaskFrame}
+use Rattle.span_fill.specs.declared.wide_line.WideRow.{WideRow}
+use Rattle.span_fill.proofs.CoverLemmas.{any_passes, covered, covers, reaches}
+use Rattle.span_fill.proofs.LineBoxLemmas.{on_line_has}
+use Rattle.span_fill.proofs.MarkLemmas.{columns_reported, reported}
+
+-- a pixel of a line lies between the columns of its ends
+between_ends : (line : Line) (u v least most : ℤ) → least ≤ℤ line.from.x → least ≤ℤ line.to.x → line.from.x ≤ℤ most → line.to.x ≤ℤ most → on_line line u v ≡ true → (least ≤ℤ u) × (u ≤ℤ most)
+between_ends line u v least most a b c d on =
+    by_lt_z line.from.y line.to.y
+    (λ (down : line.from.y <ℤ line.to.y).
+    let has = on_line_has (record { l = least; t = line.from.y; r = most; b = line.to.y }) line u v
+    (record { from = record { left = a; top = omega (arith, ints); right = c; bottom = omega (arith, ints, down) }; to = record { left = b; top = omega (arith, ints, down); right = d; bottom = omega (arith, ints) } }) on in
+    (has.left, has.right))
+    (λ (up : line.to.y ≤ℤ line.from.y).
+    let has = on_line_has (record { l = least; t = line.to.y; r = most; b = line.from.y }) line u v
+    (record { from = record { left = a; top = up; right = c; bottom = omega (arith, ints) }; to = record { left = b; top = omega (arith, ints); right = d; bottom = up } }) on in
+    (has.left, has.right))
+
+-- what the nib covers in a region is near to a column between the line's ends
+pub around_ends :
+    (frame : MaskFrame) (line : Line) (least most : ℤ) (x : ℕ) → least ≤ℤ line.from.x → least ≤ℤ line.to.x → line.from.x ≤ℤ most → line.to.x ≤ℤ most → is_in_region frame line x ≡ true
+    → ((least -ℤ pos (reach_before frame.nib.x)) ≤ℤ pos (x + frame.region.columns.from)) × (pos (x + frame.region.columns.from) ≤ℤ (most +ℤ pos (reach_after frame.nib.x)))
+around_ends frame line least most x a b c d test =
+    let y = any_passes (λ y. on_wide_line frame.nib line (pos (x + frame.region.columns.from)) (pos (y + frame.region.rows.from))) (height_of frame.region) test in
+    let near = covered frame.nib line (pos (x + frame.region.columns.from)) (pos (y.at + frame.region.rows.from)) y.passes in
+    let ends = between_ends line near.u near.v least most a b c d near.on in
+    let e = ends.0 in
+    let f = ends.1 in
+    let g = near.left in
+    let h = near.right in
+    (omega (arith, ints, e, g), omega (arith, ints, f, h))
+
+-- a nib with as many rows covers what the nib's columns cover in one of some rows of lines
+pub tall_covers :
+    (frame : MaskFrame) (line : Line) (from count x : ℕ) → IsNib (tall_nib frame count) → is_in_rows frame line from count x ≡ true
+    → on_wide_line (tall_nib frame count) line (pos (x + frame.region.columns.from)) (tall_row frame from count) ≡ true
+tall_covers frame line from count x is test =
+    let k = any_passes (λ k. on_wide_line (row_of frame.nib) line (pos (x + frame.region.columns.from)) (row_at frame (from + k))) count test in
+    let near = covered (row_of frame.nib) line (pos (x + frame.region.columns.from)) (row_at frame (from + k.at)) k.passes in
+    let below = k.below in
+    let above_row = near.above in
+    let below_row = near.below in
+    let reach = reaches count in
+    covers (tall_nib frame count) line (pos (x + frame.region.columns.from)) (tall_row frame from count) is
+    (record { u = near.u; v = near.v; on = near.on; left = near.left; right = near.right; above = omega (arith, ints, above_row, below_row, below, reach); below = omega (arith, ints, above_row, below_row, below, reach) })
+
+-- so its columns in that row have them
+pub tall_reported :
+    (frame : MaskFrame) (line : Line) (w new : WideLineState) (row : WideRow) (from count x : ℕ) → IsNib (tall_nib frame count) → HasAllRows (tall_row frame from count) (tall_row frame from count +ℤ pos 1) w
+    → TakesRow w new row → w.line ≡ line → w.nib ≡ tall_nib frame count → x + frame.region.columns.from < 8192 → is_in_rows frame line from count x ≡ true
+    → in_span row.columns (x + frame.region.columns.from) ≡ true
+tall_reported frame line w new row from count x is all takes line_is nib_is wide test =
+    let first = all.first in
+    let end = all.last in
+    let left = takes.left in
+    let next : w.next ≡ tall_row frame from count = omega (arith, ints, first, end, left) in
+    columns_reported w new row line (tall_nib frame count) (x + frame.region.columns.from) (tall_row frame from count) takes line_is nib_is next wide ∙ tall_covers frame line from count x is test
+
+-- and where it has no row there is nothing
+pub tall_nothing :
+    (frame : MaskFrame) (line : Line) (w : WideLineState) (from count x : ℕ) → IsNib (tall_nib frame count) → HasAllRows (tall_row frame from count) (tall_row frame from count +ℤ pos 1) w → w.end ≤ℤ w.next
+    → w.line ≡ line → w.nib ≡ tall_nib frame count → is_in_rows frame line from count x ≡ true → ⊥
+tall_nothing frame line w from count x is all ended line_is nib_is test =
+    let there = all.all (pos (x + frame.region.columns.from)) (tall_row frame from count) (omega (arith, ints)) (omega (arith, ints))
+    (reported w line (tall_nib frame count) (pos (x + frame.region.columns.from)) (tall_row frame from count) line_is nib_is ∙ tall_covers frame line from count x is test) in
+    let a = there.0 in
+    let b = there.1 in
+    omega (arith, ints, a, b, ended)

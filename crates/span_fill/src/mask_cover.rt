@@ -1,0 +1,163 @@
+//! Covering a mask with what a nib covers along lines.
+
+ghost use Rattle.std.specs.Prelude.{◌≡◌, ◌+◌, ◌-◌, ◌*◌, ◌<◌, ◌≤◌, IsTrue};
+ghost use Rattle.span_fill.specs.BitRows.{HasSize};
+ghost use Rattle.span_fill.specs.Lines.{HasNearEnds};
+ghost use Rattle.span_fill.specs.MaskCovers.{CoversLine, CoversLines, CoversRows, IsAllCovered, IsCoveredAlike, KnowsCovered};
+ghost use Rattle.span_fill.specs.MaskFrames.{IsMaskFrame, row_count, spare_of};
+ghost use Rattle.span_fill.specs.MaskMarks.{HasRows, HasStroke, IsClear};
+ghost use Rattle.span_fill.specs.StrokeMasks.{height_of};
+
+use crate::bit_rows::BitRows;
+use crate::covered_columns::{are_covered, are_rows_covered, find_covered, is_around_covered};
+use crate::line::Line;
+use crate::mask_frame::MaskFrame;
+use crate::mask_marks::{mark_line, mark_rows, mark_shared, widen};
+use crate::outline::Outline;
+
+/// Sets the bits of the region's pixels that the nib covers along the lines of an outline. All bits must be clear.
+pub(crate) fn cover<O: Outline>(bits: &mut BitRows, outline: &mut O, frame: MaskFrame)
+    requires frame { IsMaskFrame frame }
+    requires size { HasRows frame bits.old }
+    requires clear { IsClear frame bits.old }
+    ensures stroke { HasStroke frame (O.lines outline.old) bits.new }
+    ensures size { HasSize bits.new bits.old.rows bits.old.columns }
+{
+    let height = frame.height();
+    if height == 0 {
+        return;
+    }
+    cover_lines(bits, outline, frame);
+    widen(bits, height, frame.depth());
+}
+
+/// Covers what the nib covers along the lines of an outline.
+///
+/// After each so many rows, it looks for columns that are covered from top to bottom. A line in such columns costs
+/// little, and once all columns are covered, no more lines are read. So many lines over one another cost hardly more
+/// than what they cover.
+fn cover_lines<O: Outline>(bits: &mut BitRows, outline: &mut O, frame: MaskFrame)
+    requires frame { IsMaskFrame frame }
+    requires size { HasRows frame bits.old }
+    requires some { 1 ≤ height_of frame.region }
+    requires known { KnowsCovered frame bits.old }
+    ensures lines { CoversLines frame (O.lines outline.old) bits.old bits.new }
+    ensures size { HasSize bits.new bits.old.rows bits.old.columns }
+{
+    let most = frame.reading_rows();
+    let (mut rows, mut knows) = (0_u32, false);
+    while let Some(line) = outline.next_line() {
+        rows = rows.wrapping_add(cover_next(bits, line, frame, knows));
+        if rows >= most {
+            if is_all_covered(bits, frame) {
+                return;
+            }
+            (rows, knows) = (0, true);
+        }
+    }
+}
+
+/// Finds the columns that are covered in each row of the region, and returns whether all are.
+fn is_all_covered(bits: &mut BitRows, frame: MaskFrame) -> bool
+    requires frame { IsMaskFrame frame }
+    requires size { HasRows frame bits.old }
+    requires some { 1 ≤ height_of frame.region }
+    ensures known { KnowsCovered frame bits.new }
+    ensures same { IsCoveredAlike frame bits.old bits.new }
+    ensures all { IsTrue result → IsAllCovered frame bits.new }
+    ensures size { HasSize bits.new bits.old.rows bits.old.columns }
+{
+    find_covered(bits, frame);
+    are_covered(bits, frame.region.columns, frame)
+}
+
+/// Covers what the nib covers along a line, and may look at what is known to be covered. Returns how many rows of lines
+/// were marked one by one.
+fn cover_next(bits: &mut BitRows, line: Line, frame: MaskFrame, knows: bool) -> u32
+    requires frame { IsMaskFrame frame }
+    requires size { HasRows frame bits.old }
+    requires some { 1 ≤ height_of frame.region }
+    requires near { HasNearEnds line }
+    requires known { KnowsCovered frame bits.old }
+    ensures line { CoversLine frame line bits.old bits.new }
+    ensures known { KnowsCovered frame bits.new }
+    ensures size { HasSize bits.new bits.old.rows bits.old.columns }
+{
+    if knows {
+        cover_line(bits, line, frame)
+    } else {
+        cover_new_line(bits, line, frame)
+    }
+}
+
+/// The same for a line while nothing is known to be covered.
+fn cover_new_line(bits: &mut BitRows, line: Line, frame: MaskFrame) -> u32
+    requires frame { IsMaskFrame frame }
+    requires size { HasRows frame bits.old }
+    requires some { 1 ≤ height_of frame.region }
+    requires near { HasNearEnds line }
+    requires known { KnowsCovered frame bits.old }
+    ensures line { CoversLine frame line bits.old bits.new }
+    ensures known { KnowsCovered frame bits.new }
+    ensures size { HasSize bits.new bits.old.rows bits.old.columns }
+{
+    mark_line(bits, line, frame)
+}
+
+/// The same, but it marks nothing in columns that are known to be covered.
+fn cover_line(bits: &mut BitRows, line: Line, frame: MaskFrame) -> u32
+    requires frame { IsMaskFrame frame }
+    requires size { HasRows frame bits.old }
+    requires some { 1 ≤ height_of frame.region }
+    requires near { HasNearEnds line }
+    requires known { KnowsCovered frame bits.old }
+    ensures line { CoversLine frame line bits.old bits.new }
+    ensures known { KnowsCovered frame bits.new }
+    ensures size { HasSize bits.new bits.old.rows bits.old.columns }
+{
+    if is_around_covered(bits, line, frame) {
+        return 0;
+    }
+    let spare = frame.spare();
+    if spare == 0 {
+        return cover_rows(bits, line, frame, 0, frame.row_count());
+    }
+    let before = frame.height() - 1;
+    let first = cover_rows(bits, line, frame, 0, before);
+    cover_shared(bits, line, frame);
+    let last = cover_rows(bits, line, frame, before + 1 + spare, before);
+    first.wrapping_add(last)
+}
+
+/// Covers what the nib's columns cover along a line in some rows of lines, unless that lies in columns that are known to
+/// be covered. Returns how many rows were marked.
+fn cover_rows(bits: &mut BitRows, line: Line, frame: MaskFrame, from: u32, count: u32) -> u32
+    requires frame { IsMaskFrame frame }
+    requires size { HasRows frame bits.old }
+    requires some { 1 ≤ height_of frame.region }
+    requires near { HasNearEnds line }
+    requires rows { from + count ≤ row_count frame }
+    requires known { KnowsCovered frame bits.old }
+    ensures rows { CoversRows frame line from count bits.old bits.new }
+    ensures known { KnowsCovered frame bits.new }
+    ensures size { HasSize bits.new bits.old.rows bits.old.columns }
+{
+    if are_rows_covered(bits, line, frame, from, count) {
+        return 0;
+    }
+    mark_rows(bits, line, frame, from, count)
+}
+
+/// Covers what the nib's columns cover in the rows of lines that share a row of the mask.
+fn cover_shared(bits: &mut BitRows, line: Line, frame: MaskFrame)
+    requires frame { IsMaskFrame frame }
+    requires size { HasRows frame bits.old }
+    requires some { 1 ≤ height_of frame.region }
+    requires near { HasNearEnds line }
+    requires known { KnowsCovered frame bits.old }
+    ensures rows { CoversRows frame line (height_of frame.region - 1) (spare_of frame + 1) bits.old bits.new }
+    ensures known { KnowsCovered frame bits.new }
+    ensures size { HasSize bits.new bits.old.rows bits.old.columns }
+{
+    mark_shared(bits, line, frame);
+}

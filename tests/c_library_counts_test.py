@@ -1,0 +1,55 @@
+"""The instructions of the library for C beside those of the program: it plays in bands as high as the program's, also on a surface of many rows."""
+
+import pathlib
+import random
+import re
+import subprocess
+import tempfile
+import unittest
+
+from built import PROGRAMS, Answer, answer
+from c_library import linked_show
+from metafile.scripts import WMF
+
+# How many times the program's instructions a play by the library may take. It has the file's bytes at once, and copies no image to a pipe.
+MOST = 1.15
+
+# Surfaces that are high or wide, which are played in many bands, and one that is played in few.
+SURFACES = [(300, 8192), (8192, 300), (600, 600)]
+
+
+def small_drawings(width, height):
+    """Small triangles all over a surface: each is painted in one band or two."""
+    chance, records = random.Random(38), WMF.records("solid_brush 0 0x206040; select 0")
+    for _ in range(10_000):
+        x, y = chance.randrange(width - 6), chance.randrange(height - 6)
+        records.append(WMF.step("polygon", x, y, x + 5, y + 1, x + 2, y + 5))
+    return WMF.file(records, (width, height), 0)
+
+
+def instructions(words):
+    """The instructions of one run, and what it writes."""
+    counted = ["valgrind", "--tool=callgrind", "--callgrind-out-file=/dev/null", *map(str, words)]
+    ended = subprocess.run(counted, env={}, capture_output=True, check=True)
+    return int(re.search(rb"Collected : (\d+)", ended.stderr)[1]), ended.stdout
+
+
+class Instructions(unittest.TestCase):
+    """Plays by a certificate."""
+
+    def test_a_play_takes_about_as_many_as_the_program(self):
+        with tempfile.TemporaryDirectory() as folder:
+            file, certificate = pathlib.Path(folder, "file"), pathlib.Path(folder, "certificate")
+            for width, height in SURFACES:
+                file.write_bytes(small_drawings(width, height))
+                sides = [str(width), str(height)]
+                self.assertEqual(answer(PROGRAMS[0], ["prepare", file, *sides, certificate]), Answer(0, b"", b""))
+                program, shown = instructions([PROGRAMS[0], "play", file, certificate, *sides])
+                library, image = instructions([linked_show(), file, *sides, certificate])
+                with self.subTest(sides=sides):
+                    self.assertTrue(image == shown)
+                    self.assertLess(library, MOST * program, f"{library:,} by the library, {program:,} by the program")
+
+
+if __name__ == "__main__":
+    unittest.main()
