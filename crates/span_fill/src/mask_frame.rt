@@ -180,13 +180,13 @@ impl MaskFrame {
         ensures within { result.to ≤ width_of self.region }
     {
         let start = self.region.columns.from;
-        let stepper = self
+        let part = self
             .region
             .columns
             .between(i64::from(columns.from), i64::from(columns.to));
         Span {
-            from: stepper.from - start,
-            to: stepper.to - start,
+            from: part.from - start,
+            to: part.to - start,
         }
     }
 }
