@@ -5,7 +5,6 @@ ghost use Rattle.std.specs.Option.{option_map};
 ghost use Rattle.dc_stack.specs.Draws.{IsPlacedDraw};
 ghost use Rattle.dc_stack.specs.Drawing.{drawing_edges, tools_of};
 ghost use Rattle.dc_stack.specs.MachineState.{HasNib, drawing_with};
-ghost use Rattle.span_fill.specs.WideStrokes.{one_pixel};
 ghost use Rattle.painting.specs.Counts.{CountsDrawing, HasCapacityForDrawing, HasCapacityForLayer};
 ghost use Rattle.painting.specs.Drawn.{DrawsDrawing, HoldsRows, SameRows};
 ghost use Rattle.painting.specs.Draws.{Draws, Fills, HasClosedLines, MayDraw, Strokes, strokes_closed_figures};
@@ -163,7 +162,7 @@ fn stroke<'a, T: Table<'a>>(
         return;
     };
     let stroke = Stroke::with(colour, drawn.nib, machine);
-    if are_taken && strokes_closed_figures(&drawn.mark) && drawn.nib == Nib::ONE {
+    if are_taken && strokes_closed_figures(&drawn.mark) {
         stroke_taken(drawn, &stroke, machine, scratch, canvas);
         return;
     }
@@ -180,7 +179,7 @@ fn strokes_closed_figures(mark: &Mark<'_>) -> bool
     }
 }
 
-/// Strokes closed figures by a nib of one pixel. The row buffer has taken their lines.
+/// Strokes closed figures, whose lines the row buffer has taken.
 fn stroke_taken<'a, T: Table<'a>>(
     drawn: Draw<'a>,
     stroke: &Stroke<'_>,
@@ -192,7 +191,6 @@ fn stroke_taken<'a, T: Table<'a>>(
     requires countable { HasCapacityForLayer canvas.old }
     requires pen { IsPenOf (tools_of machine.now.state.dc) machine.now.surface stroke.now }
     requires nib { stroke.now.nib ≡ drawn.nib }
-    requires thin { drawn.nib ≡ one_pixel }
     requires closed { strokes_closed_figures drawn.mark ≡ true }
     requires taken { HasClosedLines drawn.mark machine.now scratch.old.rows.lines }
     ensures drawn { Strokes drawn.entry machine.now canvas.old canvas.new }

@@ -26,7 +26,7 @@ use crate::stroke::Stroke;
 use crate::visited_mask::VisitedMask;
 use crate::visited_mask_costs::{covers_much, visited_mask_pays};
 use crate::visiting::{begin_visited_mask, visit_lines};
-use crate::wide_stroking::stroke_wide_lines;
+use crate::wide_stroking::{stroke_kept_wide, stroke_wide_lines};
 use crate::widening::widened;
 use canvas::{Canvas, writing_law};
 use mapping::{Nib, Rect};
@@ -96,13 +96,37 @@ fn stroke_thin_lines<O: Outline + Copy>(
     }
     let mut placed = outline;
     scratch.rows.keep(&mut placed);
-    stroke_kept(canvas, scratch, drawn, stroke);
+    stroke_kept_thin(canvas, scratch, drawn, stroke);
+}
+
+/// Strokes the lines that the row buffer has taken, in a region that contains everything visible of them. They are not
+/// placed again.
+pub(crate) fn stroke_kept(
+    canvas: &mut Canvas,
+    scratch: &mut DrawingScratch,
+    drawn: Region,
+    stroke: &Stroke<'_>,
+)
+    requires countable { HasCapacityForLayer canvas.old }
+    requires nib { IsNib stroke.now.nib }
+    requires visible { HasStroke stroke.now.nib stroke.now scratch.old.rows.lines canvas.old drawn }
+    requires columns { IsOfSide drawn.columns }
+    requires rows { IsOfSide drawn.rows }
+    ensures pixels { StrokesLines stroke.now.nib stroke.now scratch.old.rows.lines canvas.old canvas.new }
+    ensures few { CountsLayer canvas.old canvas.new }
+    ensures capacity { scratch.new.rows.capacity ≡ scratch.old.rows.capacity }
+{
+    if stroke.nib == Nib::ONE {
+        stroke_kept_thin(canvas, scratch, drawn, stroke);
+        return;
+    }
+    stroke_kept_wide(canvas, scratch, drawn, stroke);
 }
 
 /// Strokes the lines that the row buffer has taken by a nib of one pixel, in a region that contains everything visible
 /// of them: through the stroke mask if the lines have more pixels than the region, through the visited mask if it can be
 /// used and costs less, or else by rows of spans.
-pub(crate) fn stroke_kept(
+fn stroke_kept_thin(
     canvas: &mut Canvas,
     scratch: &mut DrawingScratch,
     drawn: Region,
@@ -163,38 +187,9 @@ fn stroke_by_visited_mask<O: Outline + Copy>(
     visit_lines(canvas, visited, outline, stroke.mix);
 }
 
-/// Strokes the lines of an outline by rows of spans, in a region that contains everything visible of them.
-pub(crate) fn stroke_rows<O: Outline + Copy>(
-    canvas: &mut Canvas,
-    scratch: &mut DrawingScratch,
-    outline: O,
-    drawn: Region,
-    stroke: &Stroke<'_>,
-)
-    requires countable { HasCapacityForLayer canvas.old }
-    requires capacity { length (O.lines outline) ≤ scratch.old.rows.capacity }
-    requires nib { IsNib stroke.now.nib }
-    requires visible { HasStroke stroke.now.nib stroke.now (O.lines outline) canvas.old drawn }
-    requires rows { IsOfSide drawn.rows }
-    ensures pixels { StrokesLines stroke.now.nib stroke.now (O.lines outline) canvas.old canvas.new }
-    ensures few { CountsLayer canvas.old canvas.new }
-    ensures capacity { scratch.new.rows.capacity ≡ scratch.old.rows.capacity }
-{
-    writing_law();
-    whole_law(canvas);
-    if drawn.columns.from >= drawn.columns.to {
-        return;
-    }
-    let mut lines = outline;
-    scratch
-        .rows
-        .begin_stroke(&mut lines, stroke.nib, drawn.rows.from);
-    paint_begun(canvas, scratch, drawn, stroke);
-}
-
 /// Paints the rows of a stroke. The row buffer has begun with it at the first row of the region, which contains
 /// everything visible of it.
-fn paint_begun(
+pub(crate) fn paint_begun(
     canvas: &mut Canvas,
     scratch: &mut DrawingScratch,
     drawn: Region,

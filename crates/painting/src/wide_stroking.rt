@@ -8,27 +8,28 @@ ghost use Rattle.span_fill.specs.WideStrokes.{in_wide_stroke};
 ghost use Rattle.painting.specs.Counts.{CountsLayer, HasCapacityForLayer};
 ghost use Rattle.painting.specs.ReachedParts.{HasAllOf, IsPartOf};
 ghost use Rattle.painting.specs.Regions.{HasNarrowNib, HasRegion, HoldShape, IsOfSide};
-ghost use Rattle.painting.specs.StrokedLines.{StrokesLines};
+ghost use Rattle.painting.specs.StrokedLines.{HasStroke, StrokesLines};
 ghost use Rattle.painting.specs.WideSpans.{MixesWide};
 
 use crate::lone_line::lone_line;
 use crate::mask_stroking::stroke_by_mask;
 use crate::reached_part::reached_part;
+use crate::rectangles::LineList;
 use crate::regions::{visible_in, whole_law};
 use crate::scratch::DrawingScratch;
 use crate::stroke::Stroke;
-use crate::stroking::{StrokedLines, stroke_rows};
+use crate::stroking::{StrokedLines, paint_begun};
 use crate::wide_spans::WideLineSpans;
 use canvas::{Canvas, writing_law};
 use dc_stack::Clip;
 use mapping::{Mix, Nib};
 use span_fill::{Line, Outline, Region, WideLine};
 
-/// To look at so many points takes about as long as to clear and read a mask of the largest band.
-const MANY_POINTS: u32 = 1024;
+/// To look at so many lines takes about as long as to clear and read a mask of the largest band.
+const MANY_LINES: usize = 1024;
 
 /// Strokes the lines of an outline by a nib of several pixels. A lone line is painted row by row, if the clip cuts no
-/// boxes out. Other lines go through a mask, or if there is none, are painted as rows of spans.
+/// boxes out. The row buffer keeps other lines, so that each is placed once.
 pub(crate) fn stroke_wide_lines<O: Outline + Copy>(
     canvas: &mut Canvas,
     scratch: &mut DrawingScratch,
@@ -46,32 +47,61 @@ pub(crate) fn stroke_wide_lines<O: Outline + Copy>(
 {
     writing_law();
     whole_law(canvas);
+    let outline = lines.outline;
     let drawn = visible_in(canvas, stroke.clip, lines.bounds.on_surface());
-    if let Some(line) = lone_uncut_line(lines.outline, lines.points, stroke.clip) {
+    if drawn.columns.from >= drawn.columns.to {
+        return;
+    }
+    if let Some(line) = lone_uncut_line(outline, lines.points, stroke.clip) {
         mix_wide_line(canvas, line, stroke.nib, drawn, stroke.mix);
         return;
     }
-    if let Some(mask) = &mut scratch.mask {
-        let part = reached_of(lines, stroke.nib, drawn);
-        stroke_by_mask(canvas, mask, lines.outline, part, stroke);
+    let mut placed = outline;
+    scratch.rows.keep(&mut placed);
+    stroke_kept_wide(canvas, scratch, drawn, stroke);
+}
+
+/// Strokes the lines that the row buffer has taken, in a region that contains everything visible of them: through a mask,
+/// or if there is none, by rows of spans.
+pub(crate) fn stroke_kept_wide(
+    canvas: &mut Canvas,
+    scratch: &mut DrawingScratch,
+    drawn: Region,
+    stroke: &Stroke<'_>,
+)
+    requires countable { HasCapacityForLayer canvas.old }
+    requires nib { IsNib stroke.now.nib }
+    requires visible { HasStroke stroke.now.nib stroke.now scratch.old.rows.lines canvas.old drawn }
+    requires columns { IsOfSide drawn.columns }
+    requires rows { IsOfSide drawn.rows }
+    ensures pixels { StrokesLines stroke.now.nib stroke.now scratch.old.rows.lines canvas.old canvas.new }
+    ensures few { CountsLayer canvas.old canvas.new }
+    ensures capacity { scratch.new.rows.capacity ≡ scratch.old.rows.capacity }
+{
+    let DrawingScratch { rows, mask, .. } = &mut *scratch;
+    let kept = LineList { rest: rows.lines() };
+    if let Some(mask) = mask {
+        let part = reached_of(kept, stroke.nib, drawn);
+        stroke_by_mask(canvas, mask, kept, part, stroke);
         return;
     }
-    stroke_rows(canvas, scratch, lines.outline, drawn, stroke);
+    rows.begin_kept_stroke(stroke.nib, drawn.rows.from);
+    paint_begun(canvas, scratch, drawn, stroke);
 }
 
 /// The part of a region that a nib reaches along lines. All of it if there are many lines, since to look at each takes longer
 /// than a large mask.
-fn reached_of<O: Outline + Copy>(lines: StrokedLines<O>, nib: Nib, drawn: Region) -> Region
+fn reached_of(lines: LineList<'_>, nib: Nib, drawn: Region) -> Region
     requires nib { IsNib nib }
     requires columns { IsOfSide drawn.columns }
     requires rows { IsOfSide drawn.rows }
     ensures part { IsPartOf drawn result }
-    ensures all { HasAllOf drawn (in_wide_stroke nib (O.lines lines.outline)) result }
+    ensures all { HasAllOf drawn (in_wide_stroke nib lines.rest.now) result }
 {
-    if lines.points > MANY_POINTS {
+    if lines.count() > MANY_LINES {
         return drawn;
     }
-    reached_part(lines.outline, nib, drawn)
+    reached_part(lines, nib, drawn)
 }
 
 /// The only line of an outline, if the outline has exactly one and the clip cuts no boxes out.

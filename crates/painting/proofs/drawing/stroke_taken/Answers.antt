@@ -5,7 +5,7 @@ use Rattle.dc_stack.specs.Draws.{mark_of}
 use Rattle.preflight_cert.specs.Paint.{solid}
 use Rattle.preflight_cert.specs.Shape.{stroke_of}
 use Rattle.preflight_cert.specs.StrokedOutline.{outline_lines}
-use Rattle.span_fill.specs.WideStrokes.{in_wide_stroke, one_pixel}
+use Rattle.span_fill.specs.WideStrokes.{in_wide_stroke}
 use Rattle.painting.specs.PenStrokes.{stroke_paint}
 use Rattle.painting.proofs.DrawingLemmas.{painted_layer, pen_nib, pen_strokes}
 use Rattle.painting.proofs.LandedBoxLemmas.{shape_landed}
@@ -26,9 +26,8 @@ stroke_kept-requires-clause-visible g c =
     let outline = taken_outline machine.painted drawn.mark in
     let placed = c.requires.may.placed in
     let nib = pen_nib mark tools s pen.width pen.colour c.args.stroke.now.nib drawn.nib c.requires.nib c.requires.may.nib.is taken.strokes pen.pen in
-    let thin = sym c.requires.thin ∙ sym c.requires.nib ∙ nib in
-    let same = same_stroke one_pixel (nib_of pen.width tools.map s) lines (outline_lines outline s) thin taken.are in
-    let shape = in_wide_stroke one_pixel lines in
+    let same = same_stroke c.args.stroke.now.nib (nib_of pen.width tools.map s) lines (outline_lines outline s) nib taken.are in
+    let shape = in_wide_stroke c.args.stroke.now.nib lines in
     seen_within _ _ shape c.args.canvas.now c.visible_in-region.result
     (c.on_surface.ensures shape (λ box landed x y h.
     shape_landed c.drawing_box_law.ensures drawn.nib c.place.result s c.place.ensures drawn.bounds box landed (mark_points mark) placed.least placed.within
@@ -46,8 +45,7 @@ returns-clause-drawn g c =
     let taken = taken_stroke machine drawn.mark lines c.requires.closed c.requires.taken in
     let outline = taken_outline machine.painted drawn.mark in
     let nib = pen_nib (mark_of machine.painted drawn) tools s pen.width pen.colour c.args.stroke.now.nib drawn.nib c.requires.nib c.requires.may.nib.is taken.strokes pen.pen in
-    let thin = sym c.requires.thin ∙ sym c.requires.nib ∙ nib in
-    let same = same_stroke one_pixel (nib_of pen.width tools.map s) lines (outline_lines outline s) thin taken.are in
+    let same = same_stroke c.args.stroke.now.nib (nib_of pen.width tools.map s) lines (outline_lines outline s) nib taken.are in
     let painted = painted_layer c.writing_law.ensures s c.args.canvas.now c.stroke_kept.new.canvas c.whole_law.ensures.whole c.requires.may.held (solid pen.colour) tools (stroke_paint c.args.stroke.now) pen.paint _ (stroke_of pen.width tools.map outline)
     same c.stroke_kept.ensures.pixels c.stroke_kept.ensures.few in
     rw (taken.layers tools, pen_strokes outline tools pen.width pen.colour pen.pen) painted

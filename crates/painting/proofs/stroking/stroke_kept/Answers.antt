@@ -1,21 +1,19 @@
+use Rattle.std.proofs.Common.{◌≡◌, rules, sym, subst}
+use Rattle.mapping.specs.declared.nib.Nib.{Nib}
+use Rattle.span_fill.specs.WideStrokes.{in_wide_stroke, one_pixel}
+use Rattle.painting.specs.Painted.{PaintsShape}
+use Rattle.painting.specs.PenStrokes.{stroke_paint}
+use Rattle.painting.specs.StrokedLines.{HasStroke}
 use Rattle.painting.proofs.stroking.stroke_kept.Goals as goal
 
-pub stroke_by_visited_mask-requires-clause-visible : goal.stroke_by_visited_mask-requires-clause-visible
-stroke_by_visited_mask-requires-clause-visible c = rw (c.begin_visited_mask.ensures.region c.if-begin_visited_mask.true, c.lines.ensures.lines) c.requires.visible
+pub stroke_kept_thin-requires-clause-visible : goal.stroke_kept_thin-requires-clause-visible
+stroke_kept_thin-requires-clause-visible c =
+    let stroke = c.args.stroke.now in
+    let thin : stroke.nib ≡ one_pixel = search rules in
+    subst (λ (nib : Nib). HasStroke nib stroke c.args.scratch.now.rows.lines c.args.canvas.now c.args.drawn) thin c.requires.visible
 
-pub returns-then-begin_visited_mask-clause-pixels : goal.returns-then-begin_visited_mask-clause-pixels
-returns-then-begin_visited_mask-clause-pixels c = rw c.lines.ensures.lines at c.stroke_by_visited_mask.ensures.pixels
-
-pub paint_begun-requires-clause-begun : goal.paint_begun-requires-clause-begun
-paint_begun-requires-clause-begun c =
-    let begun = c.begin_kept_stroke.ensures in
-    record {
-      work = begun.work;
-      next = begun.next;
-      order = c.requires.columns.order;
-      side = c.requires.rows.to;
-      visible = rw (c.requires.nib, begun.lines) c.requires.visible;
-    }
-
-pub returns-clause-pixels : goal.returns-clause-pixels
-returns-clause-pixels c = rw (c.requires.nib, c.begin_kept_stroke.ensures.lines) at c.paint_begun.ensures.pixels
+pub returns-then-eq-clause-pixels : goal.returns-then-eq-clause-pixels
+returns-then-eq-clause-pixels c =
+    let stroke = c.args.stroke.now in
+    let thin : stroke.nib ≡ one_pixel = search rules in
+    subst (λ (nib : Nib). PaintsShape (stroke_paint stroke) (in_wide_stroke nib c.args.scratch.now.rows.lines) c.args.canvas.now c.stroke_kept_thin.new.canvas) (sym thin) c.stroke_kept_thin.ensures.pixels

@@ -31,10 +31,10 @@ returns-then-drawn-clause-pixels g c =
     none_seen (stroke_paint c.args.stroke.now) shape c.args.canvas.now c.writing_law.ensures c.whole_law.ensures.whole c.visible_in-drawn.result
     (seen_within _ _ shape c.args.canvas.now c.visible_in-drawn.result (c.on_surface.ensures shape c.requires.within) c.visible_in-drawn.ensures.visible) c.if-drawn.true
 
-pub stroke_kept-requires-clause-visible : goal.stroke_kept-requires-clause-visible
-stroke_kept-requires-clause-visible g c =
+pub stroke_kept_thin-requires-clause-visible : goal.stroke_kept_thin-requires-clause-visible
+stroke_kept_thin-requires-clause-visible g c =
     let shape = in_wide_stroke one_pixel (g.O.Outline.lines c.args.lines.outline) in
     rw c.keep.ensures.lines (seen_within _ _ shape c.args.canvas.now c.visible_in-drawn.result (c.on_surface.ensures shape c.requires.within) c.visible_in-drawn.ensures.visible)
 
 pub returns-clause-pixels : goal.returns-clause-pixels
-returns-clause-pixels g c = rw c.keep.ensures.lines at c.stroke_kept.ensures.pixels
+returns-clause-pixels g c = rw c.keep.ensures.lines at c.stroke_kept_thin.ensures.pixels

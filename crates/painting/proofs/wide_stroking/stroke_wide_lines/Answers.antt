@@ -3,8 +3,9 @@ use Rattle.std.proofs.Common.{◌≡◌, true, List, subst, sym, ◌∙◌}
 use Rattle.dc_stack.specs.Values.{placed_value}
 use Rattle.span_fill.specs.WideStrokes.{in_wide_stroke}
 use Rattle.span_fill.specs.declared.line.Line.{Line}
+use Rattle.painting.specs.PenStrokes.{stroke_paint}
 use Rattle.painting.specs.WideSpans.{MixesWide}
-use Rattle.painting.proofs.ReachedPartLemmas.{visible_part}
+use Rattle.painting.proofs.RegionLemmas.{none_seen}
 use Rattle.painting.proofs.RowLemmas.{few_written}
 use Rattle.painting.proofs.VisibleLemmas.{seen_within}
 use Rattle.painting.proofs.WideSpanLemmas.{painted_wide}
@@ -23,10 +24,20 @@ returns-in-Some-clause-pixels g c =
 pub returns-in-Some-clause-few : goal.returns-in-Some-clause-few
 returns-in-Some-clause-few g c = few_written c.writing_law.ensures _ _ c.args.canvas.now c.mix_wide_line.new.canvas c.mix_wide_line.ensures c.whole_law.ensures.pixels
 
-pub stroke_by_mask-requires-clause-visible : goal.stroke_by_mask-requires-clause-visible
-stroke_by_mask-requires-clause-visible g c =
+-- what is visible of the lines lies in the region
+pub returns-then-drawn-clause-pixels : goal.returns-then-drawn-clause-pixels
+returns-then-drawn-clause-pixels g c =
     let stroke = c.args.stroke.now in
     let shape = in_wide_stroke stroke.nib (g.O.Outline.lines c.args.lines.outline) in
     let drawn = c.visible_in-drawn in
-    visible_part (placed_value stroke.clip.now) shape c.args.canvas.now drawn.result c.reached_of-part.result (seen_within _ _ shape c.args.canvas.now drawn.result (c.on_surface.ensures shape c.requires.within) drawn.ensures.visible)
-    c.reached_of-part.ensures.part c.reached_of-part.ensures.all
+    none_seen (stroke_paint stroke) shape c.args.canvas.now c.writing_law.ensures c.whole_law.ensures.whole drawn.result
+    (seen_within _ _ shape c.args.canvas.now drawn.result (c.on_surface.ensures shape c.requires.within) drawn.ensures.visible) c.if-drawn.true
+
+pub stroke_kept_wide-requires-clause-visible : goal.stroke_kept_wide-requires-clause-visible
+stroke_kept_wide-requires-clause-visible g c =
+    let shape = in_wide_stroke c.args.stroke.now.nib (g.O.Outline.lines c.args.lines.outline) in
+    let drawn = c.visible_in-drawn in
+    rw c.keep.ensures.lines (seen_within _ _ shape c.args.canvas.now drawn.result (c.on_surface.ensures shape c.requires.within) drawn.ensures.visible)
+
+pub returns-clause-pixels : goal.returns-clause-pixels
+returns-clause-pixels g c = rw c.keep.ensures.lines at c.stroke_kept_wide.ensures.pixels
