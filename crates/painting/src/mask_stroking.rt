@@ -9,6 +9,7 @@ ghost use Rattle.painting.specs.StrokedLines.{HasStroke, StrokesLines};
 ghost use Rattle.painting.specs.Strips.{is_uncut, placed_boxes};
 ghost use Rattle.painting.specs.WideSpans.{MixesUncutWide};
 
+use crate::reached_part::reached_part;
 use crate::regions::{common, whole_law};
 use crate::stroke::Stroke;
 use crate::wide_spans::MaskSpans;
@@ -63,7 +64,7 @@ fn mix_parts<O: Outline + Copy>(
     }
 }
 
-/// The same for a region for which the mask has memory.
+/// The same for a region for which the mask has memory. The mask has only what the nib reaches of it.
 fn mix_part<O: Outline + Copy>(
     canvas: &mut Canvas,
     mask: &mut StrokeMask,
@@ -81,9 +82,10 @@ fn mix_part<O: Outline + Copy>(
     writing_law();
     whole_law(canvas);
     let mut lines = outline;
-    mask.begin(&mut lines, stroke.nib, part);
+    let reached = reached_part(outline, stroke.nib, part);
+    mask.begin(&mut lines, stroke.nib, reached);
     let cuts = stroke.clip.cut_boxes();
-    cut_boxes(mask, part, cuts);
+    cut_boxes(mask, reached, cuts);
     canvas.mix_each_span(&mut MaskSpans { mask }, stroke.mix);
 }
 

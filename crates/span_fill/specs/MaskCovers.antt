@@ -24,9 +24,10 @@ CoversToo frame test old new =
 abbrev pub IsCoveredAlike : MaskFrame → BitRowsState → BitRowsState → Type 0
 IsCoveredAlike frame old new = (x y : ℕ) → x < width_of frame.region → y < height_of frame.region → is_covered frame new x y ≡ is_covered frame old x y
 
--- all pixels are covered
-abbrev pub IsAllCovered : MaskFrame → BitRowsState → Type 0
-IsAllCovered frame bits = (x y : ℕ) → x < width_of frame.region → y < height_of frame.region → is_covered frame bits x y ≡ true
+-- all pixels in a span of columns are covered
+abbrev pub IsSpanCovered : MaskFrame → BitRowsState → Span → Type 0
+IsSpanCovered frame bits columns =
+    (x y : ℕ) → x < width_of frame.region → y < height_of frame.region → in_span columns x ≡ true → is_covered frame bits x y ≡ true
 
 -- what the nib covers along a line is covered
 abbrev pub CoversLine : MaskFrame → Line → BitRowsState → BitRowsState → Type 0

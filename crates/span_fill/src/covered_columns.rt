@@ -5,11 +5,11 @@ ghost use Rattle.std.specs.Prelude.{◌≡◌, ◌+◌, ◌-◌, ◌*◌, ◌^�
 ghost use Rattle.mapping.specs.Nibs.{IsNib, reach_after, reach_before};
 ghost use Rattle.span_fill.specs.BitRows.{HasSize};
 ghost use Rattle.span_fill.specs.Lines.{HasNearEnds};
-ghost use Rattle.span_fill.specs.MaskCovers.{AreKnown, HoldsAllBetween, HoldsColumns, IsCoveredAlike, KnowsCovered, is_in_region, is_in_rows, tall_nib, tall_row};
+ghost use Rattle.span_fill.specs.MaskCovers.{AreKnown, HoldsAllBetween, HoldsColumns, IsCoveredAlike, IsSpanCovered, KnowsCovered, is_in_region, is_in_rows, tall_nib, tall_row};
 ghost use Rattle.span_fill.specs.MaskFrames.{IsMaskFrame, row_count};
 ghost use Rattle.span_fill.specs.MaskMarks.{HasRows};
 ghost use Rattle.span_fill.specs.Spans.{in_span};
-ghost use Rattle.span_fill.specs.StrokeMasks.{height_of};
+ghost use Rattle.span_fill.specs.StrokeMasks.{height_of, width_of};
 ghost use Rattle.span_fill.specs.WideLines.{HasAllRows};
 
 use crate::bit_rows::BitRows;
@@ -22,8 +22,23 @@ use mapping::{Nib, reach_after, reach_before};
 /// The greatest width and height of a nib.
 const MAX_NIB: u32 = 4096;
 
+/// Finds columns that are covered in each row of the region, and returns the longest span of them, counted from the
+/// region's first column.
+pub(crate) fn find_known(bits: &mut BitRows, frame: MaskFrame) -> Span
+    requires frame { IsMaskFrame frame }
+    requires size { HasRows frame bits.old }
+    requires some { 1 ≤ height_of frame.region }
+    ensures known { KnowsCovered frame bits.new }
+    ensures same { IsCoveredAlike frame bits.old bits.new }
+    ensures covered { IsSpanCovered frame bits.new result }
+    ensures size { HasSize bits.new bits.old.rows bits.old.columns }
+{
+    find_covered(bits, frame);
+    longest_known(bits, frame)
+}
+
 /// Finds the columns that are covered in each row of the region, or most of them, by reading one row of `depth`.
-pub(crate) fn find_covered(bits: &mut BitRows, frame: MaskFrame)
+fn find_covered(bits: &mut BitRows, frame: MaskFrame)
     requires frame { IsMaskFrame frame }
     requires size { HasRows frame bits.old }
     requires some { 1 ≤ height_of frame.region }
@@ -42,8 +57,29 @@ pub(crate) fn find_covered(bits: &mut BitRows, frame: MaskFrame)
     }
 }
 
+/// The longest span of columns that are known to be covered.
+fn longest_known(bits: &BitRows, frame: MaskFrame) -> Span
+    requires frame { IsMaskFrame frame }
+    requires size { HasRows frame bits.now }
+    requires some { 1 ≤ height_of frame.region }
+    ensures { AreKnown frame bits.now (in_span result) }
+{
+    let (row, width) = (frame.last_row(), frame.width());
+    let mut longest = Span { from: 0, to: 0 };
+    let mut column = 0;
+    while column < width {
+        let from = bits.next_set(row, column, width);
+        let to = bits.next_clear(row, from, width);
+        if to - from > longest.to - longest.from {
+            longest = Span { from, to };
+        }
+        column = to + 1;
+    }
+    longest
+}
+
 /// Whether some columns of the surface, as far as they lie in the region, are known to be covered.
-pub(crate) fn are_covered(bits: &BitRows, columns: Span, frame: MaskFrame) -> bool
+fn are_covered(bits: &BitRows, columns: Span, frame: MaskFrame) -> bool
     requires frame { IsMaskFrame frame }
     requires size { HasRows frame bits.now }
     requires some { 1 ≤ height_of frame.region }
@@ -53,14 +89,14 @@ pub(crate) fn are_covered(bits: &BitRows, columns: Span, frame: MaskFrame) -> bo
     bits.next_clear(frame.last_row(), part.from, part.to) >= part.to
 }
 
-/// Whether all columns from one end of a line to the other, as far as the nib reaches, are known to be covered.
-pub(crate) fn is_around_covered(bits: &BitRows, line: Line, frame: MaskFrame) -> bool
-    requires frame { IsMaskFrame frame }
-    requires size { HasRows frame bits.now }
-    requires some { 1 ≤ height_of frame.region }
-    ensures { IsTrue result → AreKnown frame bits.now (is_in_region frame line) }
+/// Whether all columns of the region from one end of a line to the other, as far as the nib reaches, are among these, which
+/// are counted from the region's first column.
+pub(crate) fn is_around_within(line: Line, frame: MaskFrame, columns: Span) -> bool
+    requires { IsMaskFrame frame }
+    ensures { IsTrue result → (x : ℕ) → x < width_of frame.region → is_in_region frame line x ≡ true → in_span columns x ≡ true }
 {
-    are_covered(bits, columns_around(line, frame), frame)
+    let part = frame.columns_of(columns_around(line, frame));
+    part.from >= part.to || (columns.from <= part.from && part.to <= columns.to)
 }
 
 /// The columns of the region that a nib covers anywhere along a line, and those between them.

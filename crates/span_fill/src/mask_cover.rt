@@ -1,19 +1,20 @@
 //! Covering a mask with what a nib covers along lines.
 
-ghost use Rattle.std.specs.Prelude.{◌≡◌, ◌+◌, ◌-◌, ◌*◌, ◌<◌, ◌≤◌, IsTrue};
+ghost use Rattle.std.specs.Prelude.{◌≡◌, ◌+◌, ◌-◌, ◌*◌, ◌<◌, ◌≤◌, IfSome, IsTrue};
 ghost use Rattle.span_fill.specs.BitRows.{HasSize};
 ghost use Rattle.span_fill.specs.Lines.{HasNearEnds};
-ghost use Rattle.span_fill.specs.MaskCovers.{CoversLine, CoversLines, CoversRows, IsAllCovered, IsCoveredAlike, KnowsCovered};
+ghost use Rattle.span_fill.specs.MaskCovers.{CoversLine, CoversLines, CoversRows, IsSpanCovered, KnowsCovered};
 ghost use Rattle.span_fill.specs.MaskFrames.{IsMaskFrame, row_count, spare_of};
 ghost use Rattle.span_fill.specs.MaskMarks.{HasRows, HasStroke, IsClear};
 ghost use Rattle.span_fill.specs.StrokeMasks.{height_of};
 
 use crate::bit_rows::BitRows;
-use crate::covered_columns::{are_covered, are_rows_covered, find_covered, is_around_covered};
+use crate::covered_columns::{are_rows_covered, find_known, is_around_within};
 use crate::line::Line;
 use crate::mask_frame::MaskFrame;
 use crate::mask_marks::{mark_line, mark_rows, mark_shared, widen};
 use crate::outline::Outline;
+use crate::span::Span;
 
 /// Sets the bits of the region's pixels that the nib covers along the lines of an outline. All bits must be clear.
 pub(crate) fn cover<O: Outline>(bits: &mut BitRows, outline: &mut O, frame: MaskFrame)
@@ -45,48 +46,35 @@ fn cover_lines<O: Outline>(bits: &mut BitRows, outline: &mut O, frame: MaskFrame
     ensures size { HasSize bits.new bits.old.rows bits.old.columns }
 {
     let most = frame.reading_rows();
-    let (mut rows, mut knows) = (0_u32, false);
+    let (mut rows, mut known) = (0_u32, None);
     while let Some(line) = outline.next_line() {
-        rows = rows.wrapping_add(cover_next(bits, line, frame, knows));
+        rows = rows.wrapping_add(cover_next(bits, line, frame, known));
         if rows >= most {
-            if is_all_covered(bits, frame) {
+            let columns = find_known(bits, frame);
+            if columns.from == 0 && columns.to >= frame.width() {
                 return;
             }
-            (rows, knows) = (0, true);
+            (rows, known) = (0, Some(columns));
         }
     }
 }
 
-/// Finds the columns that are covered in each row of the region, and returns whether all are.
-fn is_all_covered(bits: &mut BitRows, frame: MaskFrame) -> bool
-    requires frame { IsMaskFrame frame }
-    requires size { HasRows frame bits.old }
-    requires some { 1 ≤ height_of frame.region }
-    ensures known { KnowsCovered frame bits.new }
-    ensures same { IsCoveredAlike frame bits.old bits.new }
-    ensures all { IsTrue result → IsAllCovered frame bits.new }
-    ensures size { HasSize bits.new bits.old.rows bits.old.columns }
-{
-    find_covered(bits, frame);
-    are_covered(bits, frame.region.columns, frame)
-}
-
-/// Covers what the nib covers along a line, and may look at what is known to be covered. Returns how many rows of lines
-/// were marked one by one.
-fn cover_next(bits: &mut BitRows, line: Line, frame: MaskFrame, knows: bool) -> u32
+/// Covers what the nib covers along a line. Columns in which all pixels are known to be covered may have been found.
+/// Returns how many rows of lines were marked one by one.
+fn cover_next(bits: &mut BitRows, line: Line, frame: MaskFrame, known: Option<Span>) -> u32
     requires frame { IsMaskFrame frame }
     requires size { HasRows frame bits.old }
     requires some { 1 ≤ height_of frame.region }
     requires near { HasNearEnds line }
     requires known { KnowsCovered frame bits.old }
+    requires columns { IfSome known (IsSpanCovered frame bits.old) }
     ensures line { CoversLine frame line bits.old bits.new }
     ensures known { KnowsCovered frame bits.new }
     ensures size { HasSize bits.new bits.old.rows bits.old.columns }
 {
-    if knows {
-        cover_line(bits, line, frame)
-    } else {
-        cover_new_line(bits, line, frame)
+    match known {
+        Some(columns) => cover_line(bits, line, frame, columns),
+        None => cover_new_line(bits, line, frame),
     }
 }
 
@@ -104,18 +92,19 @@ fn cover_new_line(bits: &mut BitRows, line: Line, frame: MaskFrame) -> u32
     mark_line(bits, line, frame)
 }
 
-/// The same, but it marks nothing in columns that are known to be covered.
-fn cover_line(bits: &mut BitRows, line: Line, frame: MaskFrame) -> u32
+/// The same, but it marks nothing in columns that are known to be covered: these among others.
+fn cover_line(bits: &mut BitRows, line: Line, frame: MaskFrame, known: Span) -> u32
     requires frame { IsMaskFrame frame }
     requires size { HasRows frame bits.old }
     requires some { 1 ≤ height_of frame.region }
     requires near { HasNearEnds line }
     requires known { KnowsCovered frame bits.old }
+    requires columns { IsSpanCovered frame bits.old known }
     ensures line { CoversLine frame line bits.old bits.new }
     ensures known { KnowsCovered frame bits.new }
     ensures size { HasSize bits.new bits.old.rows bits.old.columns }
 {
-    if is_around_covered(bits, line, frame) {
+    if is_around_within(line, frame, known) {
         return 0;
     }
     let spare = frame.spare();

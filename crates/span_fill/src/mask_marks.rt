@@ -147,6 +147,7 @@ fn row_around(pixel: Pixel, nib: Nib) -> WideRow
 }
 
 /// Marks what the nib's columns cover in a row.
+#[inline(always)]
 fn mark_row(bits: &mut BitRows, row: WideRow, frame: MaskFrame)
     requires frame { IsMaskFrame frame }
     requires size { HasRows frame bits.old }
@@ -178,7 +179,7 @@ pub(crate) fn mark_shared(bits: &mut BitRows, line: Line, frame: MaskFrame)
 }
 
 /// Marks columns of a surface in a row of the mask. Few columns that lie within the region are set at once.
-#[inline]
+#[inline(always)]
 fn mark_columns(bits: &mut BitRows, columns: Span, frame: MaskFrame, row: u32)
     requires frame { IsMaskFrame frame }
     requires size { HasRows frame bits.old }
@@ -191,6 +192,18 @@ fn mark_columns(bits: &mut BitRows, columns: Span, frame: MaskFrame, row: u32)
         bits.set_run(row, columns.from - seen.from, columns.to - columns.from);
         return;
     }
+    mark_part(bits, columns, frame, row);
+}
+
+/// The same for any columns. (Apart, this leaves the registers to the others.)
+#[inline(never)]
+fn mark_part(bits: &mut BitRows, columns: Span, frame: MaskFrame, row: u32)
+    requires frame { IsMaskFrame frame }
+    requires size { HasRows frame bits.old }
+    requires row { row < 2 * height_of frame.region }
+    ensures columns { MarksColumns frame columns row bits.old bits.new }
+    ensures size { HasSize bits.new bits.old.rows bits.old.columns }
+{
     let part = frame.columns_of(columns);
     bits.set(row, part.from, part.to);
 }
