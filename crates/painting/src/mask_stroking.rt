@@ -9,7 +9,6 @@ ghost use Rattle.painting.specs.StrokedLines.{HasStroke, StrokesLines};
 ghost use Rattle.painting.specs.Strips.{is_uncut, placed_boxes};
 ghost use Rattle.painting.specs.WideSpans.{MixesUncutWide};
 
-use crate::reached_part::reached_part;
 use crate::regions::{common, whole_law};
 use crate::stroke::Stroke;
 use crate::wide_spans::MaskSpans;
@@ -64,7 +63,7 @@ fn mix_parts<O: Outline + Copy>(
     }
 }
 
-/// The same for a region for which the mask has memory. The mask has only what the nib reaches of it.
+/// The same for a region for which the mask has memory.
 fn mix_part<O: Outline + Copy>(
     canvas: &mut Canvas,
     mask: &mut StrokeMask,
@@ -82,10 +81,9 @@ fn mix_part<O: Outline + Copy>(
     writing_law();
     whole_law(canvas);
     let mut lines = outline;
-    let reached = reached_part(outline, stroke.nib, part);
-    mask.begin(&mut lines, stroke.nib, reached);
+    mask.begin(&mut lines, stroke.nib, part);
     let cuts = stroke.clip.cut_boxes();
-    cut_boxes(mask, reached, cuts);
+    cut_boxes(mask, part, cuts);
     canvas.mix_each_span(&mut MaskSpans { mask }, stroke.mix);
 }
 

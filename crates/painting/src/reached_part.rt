@@ -12,27 +12,9 @@ ghost use Rattle.painting.specs.Regions.{IsOfSide};
 use mapping::{Nib, reach_after, reach_before};
 use span_fill::{Line, Outline, Region, Span, wide_stroke_law};
 
-/// To look at so many lines takes about as long as to clear and read a mask.
-const MANY_LINES: usize = 1024;
-
-/// The part of a region that a nib reaches along the lines of an outline. All of it if there are many lines, since to look
-/// at each takes longer than the mask.
-pub(crate) fn reached_part<O: Outline + Copy>(outline: O, nib: Nib, drawn: Region) -> Region
-    requires nib { IsNib nib }
-    requires columns { IsOfSide drawn.columns }
-    requires rows { IsOfSide drawn.rows }
-    ensures part { IsPartOf drawn result }
-    ensures all { HasAllOf drawn (in_wide_stroke nib (O.lines outline)) result }
-{
-    if outline.count() > MANY_LINES {
-        return drawn;
-    }
-    reached_box(outline, nib, drawn)
-}
-
 /// The smallest box of a region that contains, for each line of an outline, what the region has between the line's ends, as
 /// far as the nib reaches.
-fn reached_box<O: Outline + Copy>(outline: O, nib: Nib, drawn: Region) -> Region
+pub(crate) fn reached_part<O: Outline + Copy>(outline: O, nib: Nib, drawn: Region) -> Region
     requires nib { IsNib nib }
     requires columns { IsOfSide drawn.columns }
     requires rows { IsOfSide drawn.rows }

@@ -6,12 +6,14 @@ ghost use Rattle.dc_stack.specs.Values.{placed_value};
 ghost use Rattle.span_fill.specs.Lines.{HasNearEnds};
 ghost use Rattle.span_fill.specs.WideStrokes.{in_wide_stroke};
 ghost use Rattle.painting.specs.Counts.{CountsLayer, HasCapacityForLayer};
+ghost use Rattle.painting.specs.ReachedParts.{HasAllOf, IsPartOf};
 ghost use Rattle.painting.specs.Regions.{HasNarrowNib, HasRegion, HoldShape, IsOfSide};
 ghost use Rattle.painting.specs.StrokedLines.{HasStroke, StrokesLines};
 ghost use Rattle.painting.specs.WideSpans.{MixesWide};
 
 use crate::lone_line::lone_line;
 use crate::mask_stroking::stroke_by_mask;
+use crate::reached_part::reached_part;
 use crate::rectangles::LineList;
 use crate::regions::{visible_in, whole_law};
 use crate::scratch::DrawingScratch;
@@ -22,6 +24,9 @@ use canvas::{Canvas, writing_law};
 use dc_stack::Clip;
 use mapping::{Mix, Nib};
 use span_fill::{Line, Outline, Region, WideLine};
+
+/// To look at so many lines takes about as long as to clear and read a mask of the largest band.
+const MANY_LINES: usize = 1024;
 
 /// Strokes the lines of an outline by a nib of several pixels. A lone line is painted row by row, if the clip cuts no
 /// boxes out. The row buffer keeps other lines, so that each is placed once.
@@ -76,11 +81,27 @@ pub(crate) fn stroke_kept_wide(
     let DrawingScratch { rows, mask, .. } = &mut *scratch;
     let kept = LineList { rest: rows.lines() };
     if let Some(mask) = mask {
-        stroke_by_mask(canvas, mask, kept, drawn, stroke);
+        let part = reached_of(kept, stroke.nib, drawn);
+        stroke_by_mask(canvas, mask, kept, part, stroke);
         return;
     }
     rows.begin_kept_stroke(stroke.nib, drawn.rows.from);
     paint_begun(canvas, scratch, drawn, stroke);
+}
+
+/// The part of a region that a nib reaches along lines. All of it if there are many lines, since to look at each takes longer
+/// than a large mask.
+fn reached_of(lines: LineList<'_>, nib: Nib, drawn: Region) -> Region
+    requires nib { IsNib nib }
+    requires columns { IsOfSide drawn.columns }
+    requires rows { IsOfSide drawn.rows }
+    ensures part { IsPartOf drawn result }
+    ensures all { HasAllOf drawn (in_wide_stroke nib lines.rest.now) result }
+{
+    if lines.count() > MANY_LINES {
+        return drawn;
+    }
+    reached_part(lines, nib, drawn)
 }
 
 /// The only line of an outline, if the outline has exactly one and the clip cuts no boxes out.

@@ -4,13 +4,15 @@ use Rattle.std.proofs.Math.Bool.{or-false, or_assoc}
 use Rattle.std.proofs.lemmas.Bool.{and_left, and_parts, ne_eqb, or_left}
 use Rattle.mapping.specs.TestLaws.{by_either, same_test}
 use Rattle.span_fill.specs.BitRows.{BitRowsState, has_bit}
-use Rattle.span_fill.specs.MaskCovers.{AreKnown, CoversLine, CoversRows, CoversToo, KeepsLastRow, KnowsCovered, covers_in, is_covered, is_in_region, is_in_rows, last_row}
+use Rattle.span_fill.specs.MaskCovers.{AreKnown, CoversLine, CoversRows, CoversToo, IsSpanCovered, KeepsLastRow, KnowsCovered, covers_in, is_covered, is_in_region, is_in_rows, last_row}
 use Rattle.span_fill.specs.MaskFrames.{IsMaskFrame, depth_of, marks, marks_at, marks_in, mask_row, row_at, row_count, spare_of}
 use Rattle.span_fill.specs.MaskMarks.{MarksLine, MarksRows, SetsToo}
+use Rattle.span_fill.specs.Spans.{in_span}
 use Rattle.span_fill.specs.StrokeMasks.{height_of, width_of}
 use Rattle.span_fill.specs.WideStrokes.{any_below, in_wide_stroke, on_wide_line, row_of}
 use Rattle.span_fill.specs.declared.line.Line.{Line}
 use Rattle.span_fill.specs.declared.mask_frame.MaskFrame.{MaskFrame}
+use Rattle.span_fill.specs.declared.span.Span.{Span}
 use Rattle.span_fill.proofs.AnyLemmas.{any_none, any_or, any_same}
 use Rattle.span_fill.proofs.CoverLemmas.{any_from, any_passes}
 use Rattle.span_fill.proofs.MaskRowLemmas.{row_of_region}
@@ -69,16 +71,23 @@ rows_spared frame line from count bits known there x y wide high =
     let parts = and_parts (nat_eq (y + d.at) (mask_row frame (from + k.at))) (on_wide_line (row_of frame.nib) line (pos (x + frame.region.columns.from)) (row_at frame (from + k.at))) k.passes in
     known x y wide high (there x wide (any_from (λ k. on_wide_line (row_of frame.nib) line (pos (x + frame.region.columns.from)) (row_at frame (from + k))) count k.at k.below parts.1))))
 
--- nor does a line there
-pub line_spared : (frame : MaskFrame) (line : Line) (bits : BitRowsState) → KnowsCovered frame bits → AreKnown frame bits (is_in_region frame line) → CoversLine frame line bits bits
-line_spared frame line bits known there x y wide high =
+-- nor does a line in a span of columns that is covered
+pub line_spared :
+    (frame : MaskFrame) (line : Line) (bits : BitRowsState) (columns : Span) → IsSpanCovered frame bits columns
+    → ((x : ℕ) → x < width_of frame.region → is_in_region frame line x ≡ true → in_span columns x ≡ true) → CoversLine frame line bits bits
+line_spared frame line bits columns covered there x y wide high =
     let on = on_wide_line frame.nib line (pos (x + frame.region.columns.from)) (pos (y + frame.region.rows.from)) in
     same_test (is_covered frame bits x y) (is_covered frame bits x y || on)
     (λ t. or_left (is_covered frame bits x y) on t)
     (λ t. by_either (is_covered frame bits x y) on t
     (λ (h : is_covered frame bits x y ≡ true). h)
     (λ (h : on ≡ true).
-    known x y wide high (there x wide (any_from (λ y. on_wide_line frame.nib line (pos (x + frame.region.columns.from)) (pos (y + frame.region.rows.from))) (height_of frame.region) y high h))))
+    covered x y wide high (there x wide (any_from (λ y. on_wide_line frame.nib line (pos (x + frame.region.columns.from)) (pos (y + frame.region.rows.from))) (height_of frame.region) y high h))))
+
+-- columns in which all pixels are covered stay so
+pub span_still : (frame : MaskFrame) (line : Line) (old new : BitRowsState) (columns : Span) → CoversLine frame line old new → IsSpanCovered frame old columns → IsSpanCovered frame new columns
+span_still frame line old new columns covers covered x y wide high inside =
+    covers x y wide high ∙ or_left (is_covered frame old x y) (on_wide_line frame.nib line (pos (x + frame.region.columns.from)) (pos (y + frame.region.rows.from))) (covered x y wide high inside)
 
 -- all rows of a line, none of which shares its row of the mask
 pub all_covered : (frame : MaskFrame) (line : Line) (count : ℕ) (old new : BitRowsState) → IsMaskFrame frame → count ≡ row_count frame → CoversRows frame line 0 count old new → CoversLine frame line old new
@@ -111,15 +120,3 @@ parts_covered frame line before spare old one two new is e f some more first sec
     grouped : (a b c d : Bool) → (((a || b) || c) || d) ≡ (a || ((b || c) || d))
     grouped true b c d = refl
     grouped false b c d = refl
-
--- one line more
-pub lines_more :
-    (frame : MaskFrame) (line : Line) (lines all : List Line) (start old new : BitRowsState) (x y : ℕ) → x < width_of frame.region → y < height_of frame.region → CoversLine frame line old new
-    → (is_covered frame old x y || in_wide_stroke frame.nib (line ∷ lines) (x + frame.region.columns.from) (y + frame.region.rows.from))
-    ≡ (is_covered frame start x y || in_wide_stroke frame.nib all (x + frame.region.columns.from) (y + frame.region.rows.from))
-    → (is_covered frame new x y || in_wide_stroke frame.nib lines (x + frame.region.columns.from) (y + frame.region.rows.from))
-    ≡ (is_covered frame start x y || in_wide_stroke frame.nib all (x + frame.region.columns.from) (y + frame.region.rows.from))
-lines_more frame line lines all start old new x y wide high covers there =
-    ap (λ (b : Bool). b || in_wide_stroke frame.nib lines (x + frame.region.columns.from) (y + frame.region.rows.from)) (covers x y wide high)
-    ∙ or_assoc (is_covered frame old x y) (on_wide_line frame.nib line (pos (x + frame.region.columns.from)) (pos (y + frame.region.rows.from))) (in_wide_stroke frame.nib lines (x + frame.region.columns.from) (y + frame.region.rows.from))
-    ∙ there

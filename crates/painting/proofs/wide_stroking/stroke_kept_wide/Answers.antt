@@ -1,7 +1,15 @@
+use Rattle.dc_stack.specs.Values.{placed_value}
+use Rattle.span_fill.specs.WideStrokes.{in_wide_stroke}
+use Rattle.painting.proofs.ReachedPartLemmas.{visible_part}
 use Rattle.painting.proofs.wide_stroking.stroke_kept_wide.Goals as goal
 
 pub stroke_by_mask-requires-clause-visible : goal.stroke_by_mask-requires-clause-visible
-stroke_by_mask-requires-clause-visible c = rw c.lines.ensures.lines c.requires.visible
+stroke_by_mask-requires-clause-visible c =
+    let stroke = c.args.stroke.now in
+    let shape = in_wide_stroke stroke.nib c.args.scratch.now.rows.lines in
+    let part = c.reached_of-part in
+    rw c.lines.ensures.lines
+    (visible_part (placed_value stroke.clip.now) shape c.args.canvas.now c.args.drawn part.result c.requires.visible part.ensures.part (rw c.lines.ensures.lines at part.ensures.all))
 
 pub returns-in-Some-clause-pixels : goal.returns-in-Some-clause-pixels
 returns-in-Some-clause-pixels c = rw c.lines.ensures.lines at c.stroke_by_mask.ensures.pixels

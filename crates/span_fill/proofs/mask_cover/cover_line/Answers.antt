@@ -3,8 +3,8 @@ use Rattle.std.proofs.Common.{◌-◌, ap}
 use Rattle.span_fill.proofs.MaskCoverLemmas.{all_covered, line_spared, parts_covered}
 use Rattle.span_fill.proofs.mask_cover.cover_line.Goals as goal
 
-pub returns-then-is_around_covered-clause-line : goal.returns-then-is_around_covered-clause-line
-returns-then-is_around_covered-clause-line c = line_spared c.args.frame c.args.line c.args.bits.now c.requires.known (c.is_around_covered.ensures c.if-is_around_covered.true)
+pub returns-then-is_around_within-clause-line : goal.returns-then-is_around_within-clause-line
+returns-then-is_around_within-clause-line c = line_spared c.args.frame c.args.line c.args.bits.now c.args.known c.requires.columns (c.is_around_within.ensures c.if-is_around_within.true)
 
 pub returns-then-spare-eq0-clause-line : goal.returns-then-spare-eq0-clause-line
 returns-then-spare-eq0-clause-line c = all_covered c.args.frame c.args.line c.row_count.result c.args.bits.now c.cover_rows.new.bits c.requires.frame c.row_count.ensures c.cover_rows.ensures.rows

@@ -1,7 +1,7 @@
 -- The bits of the row are set where the columns are.
 use Rattle.span_fill.specs.BitRows.{has_bit}
 use Rattle.span_fill.proofs.MaskRowLemmas.{row_set}
-use Rattle.span_fill.proofs.mask_marks.mark_columns.Goals as goal
+use Rattle.span_fill.proofs.mask_marks.mark_part.Goals as goal
 
 pub returns-clause-columns : goal.returns-clause-columns
 returns-clause-columns c = λ x i wide high.
