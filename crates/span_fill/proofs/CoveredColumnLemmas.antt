@@ -17,7 +17,7 @@ use Rattle.span_fill.proofs.LineBoxLemmas.{on_line_has}
 use Rattle.span_fill.proofs.MarkLemmas.{columns_reported, reported}
 
 -- a pixel of a line lies between the columns of its ends
-between_ends : (line : Line) (u v least most : ℤ) → least ≤ℤ line.from.x → least ≤ℤ line.to.x → line.from.x ≤ℤ most → line.to.x ≤ℤ most → on_line line u v ≡ true → (least ≤ℤ u) × (u ≤ℤ most)
+pub between_ends : (line : Line) (u v least most : ℤ) → least ≤ℤ line.from.x → least ≤ℤ line.to.x → line.from.x ≤ℤ most → line.to.x ≤ℤ most → on_line line u v ≡ true → (least ≤ℤ u) × (u ≤ℤ most)
 between_ends line u v least most a b c d on =
     by_lt_z line.from.y line.to.y
     (λ (down : line.from.y <ℤ line.to.y).

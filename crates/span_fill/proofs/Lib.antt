@@ -53,6 +53,7 @@ pub mod MarkLemmas
 pub mod SharedRowLemmas
 pub mod MaskCoverLemmas
 pub mod CoveredColumnLemmas
+pub mod MaskRunLemmas
 pub mod StepMarkLemmas
 pub mod BitWordLemmas
 pub mod ClearedBits

@@ -1,6 +1,6 @@
 -- What marked rows cover once they are widened, and what is known to be covered.
-use Rattle.std.proofs.Common.{◌≡◌, ℕ, ◌+◌, ◌-◌, ◌<◌, ◌≤◌, Bool, true, false, ◌||◌, nat_eq, pos, List, ◌∷◌, refl, ap, sym, ◌∙◌, arith}
-use Rattle.std.proofs.Math.Bool.{or-false, or_assoc}
+use Rattle.std.proofs.Common.{◌≡◌, ℕ, ◌+◌, ◌-◌, ◌<◌, ◌≤◌, Bool, true, false, ◌||◌, nat_eq, pos, refl, ap, sym, ◌∙◌, arith}
+use Rattle.std.proofs.Math.Bool.{or-false}
 use Rattle.std.proofs.lemmas.Bool.{and_left, and_parts, ne_eqb, or_left}
 use Rattle.mapping.specs.TestLaws.{by_either, same_test}
 use Rattle.span_fill.specs.BitRows.{BitRowsState, has_bit}
@@ -9,7 +9,7 @@ use Rattle.span_fill.specs.MaskFrames.{IsMaskFrame, depth_of, marks, marks_at, m
 use Rattle.span_fill.specs.MaskMarks.{MarksLine, MarksRows, SetsToo}
 use Rattle.span_fill.specs.Spans.{in_span}
 use Rattle.span_fill.specs.StrokeMasks.{height_of, width_of}
-use Rattle.span_fill.specs.WideStrokes.{any_below, in_wide_stroke, on_wide_line, row_of}
+use Rattle.span_fill.specs.WideStrokes.{any_below, on_wide_line, row_of}
 use Rattle.span_fill.specs.declared.line.Line.{Line}
 use Rattle.span_fill.specs.declared.mask_frame.MaskFrame.{MaskFrame}
 use Rattle.span_fill.specs.declared.span.Span.{Span}

@@ -42,3 +42,4 @@ pub mod StrokeMaskInside
 pub mod MaskCovers
 pub mod MaskFrames
 pub mod MaskMarks
+pub mod MaskRuns

@@ -57,6 +57,7 @@ mod major_line;
 mod mask_cover;
 mod mask_frame;
 mod mask_marks;
+mod mask_runs;
 mod memory;
 mod numbering;
 mod outline;

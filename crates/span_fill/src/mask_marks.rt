@@ -1,20 +1,22 @@
 //! Marking what a nib's columns cover along lines, in rows of bits.
 
-ghost use Rattle.std.specs.Prelude.{◌≡◌, ◌↔◌, ◌+◌, ◌-◌, ◌*◌, ◌<◌, ◌≤◌, ◌≤ℤ◌, ◌<ℤ◌, ℕ, pos, IsTrue};
+ghost use Rattle.std.specs.Prelude.{◌≡◌, ◌↔◌, ◌+◌, ◌-◌, ◌*◌, ◌<◌, ◌≤◌, ◌≤ℤ◌, ◌<ℤ◌, ℕ, pos, IfSome, IsTrue};
 ghost use Rattle.mapping.specs.Boxes.{HasPoint};
-ghost use Rattle.mapping.specs.Nibs.{IsNib};
+ghost use Rattle.mapping.specs.Nibs.{IsNib, reach_after, reach_before};
 ghost use Rattle.span_fill.specs.BitRows.{HasSize};
 ghost use Rattle.span_fill.specs.Clips.{IsIn};
 ghost use Rattle.span_fill.specs.LineBoxes.{HasLine};
 ghost use Rattle.span_fill.specs.Lines.{HasNearEnds};
 ghost use Rattle.span_fill.specs.MaskFrames.{IsMaskFrame, first_row, row_at, row_count, spare_of};
 ghost use Rattle.span_fill.specs.MaskMarks.{HasRows, IsAround, IsNarrowPart, MarksColumns, MarksLine, MarksRow, MarksRows, Widens, largest_surface};
+ghost use Rattle.span_fill.specs.MaskRuns.{IsRunOf};
 ghost use Rattle.span_fill.specs.StrokeMasks.{height_of};
 
 use crate::axes::runs_y_major;
 use crate::bit_rows::BitRows;
 use crate::line::Line;
 use crate::mask_frame::MaskFrame;
+use crate::mask_runs::{Runs, mark_run, runs_of};
 use crate::pixel::Pixel;
 use crate::span::Span;
 use crate::steps::LineSteps;
@@ -103,13 +105,32 @@ fn mark_steps(bits: &mut BitRows, line: Line, frame: MaskFrame, from: u32, count
     ensures size { HasSize bits.new bits.old.rows bits.old.columns }
 {
     let region = frame.surface_rows(from, count);
+    let runs = runs_of(line, frame, from, count);
     let mut steps = LineSteps::new(line, region);
     let mut marked = 0_u32;
     while let Some(pixel) = steps.next() {
-        mark_row(bits, row_around(pixel, frame.nib), frame);
+        mark_around(bits, row_around(pixel, frame.nib), frame, runs);
         marked = marked.wrapping_add(1);
     }
     marked
+}
+
+/// Marks what the nib's columns cover in a row, of which more may be known.
+#[inline(always)]
+fn mark_around(bits: &mut BitRows, row: WideRow, frame: MaskFrame, runs: Option<Runs>)
+    requires frame { IsMaskFrame frame }
+    requires size { HasRows frame bits.old }
+    requires some { 1 ≤ height_of frame.region }
+    requires first { first_row frame ≤ℤ row.y }
+    requires last { row.y <ℤ row_at frame (row_count frame) }
+    requires run { IfSome runs (IsRunOf frame row) }
+    ensures row { MarksRow frame row bits.old bits.new }
+    ensures size { HasSize bits.new bits.old.rows bits.old.columns }
+{
+    match runs {
+        Some(runs) => mark_run(bits, row, frame, runs),
+        None => mark_row(bits, row, frame),
+    }
 }
 
 /// Whether a line is y-major, and both its ends lie within the largest surface.
@@ -133,6 +154,8 @@ fn row_around(pixel: Pixel, nib: Nib) -> WideRow
     requires x { pixel.x < 8192 }
     requires y { pixel.y < 8192 }
     ensures row { result.y ≡ pos pixel.y }
+    ensures from { result.columns.from ≡ pixel.x - reach_before nib.x }
+    ensures to { result.columns.to ≡ pixel.x + reach_after nib.x + 1 }
     ensures columns { (n : ℕ) → IsIn result.columns n ↔ IsAround nib pixel.x n }
 {
     let before = reach_before(nib.x) as u32;

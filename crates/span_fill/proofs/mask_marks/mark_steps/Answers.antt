@@ -3,6 +3,7 @@ use Rattle.std.proofs.Common.{◌≡◌, ℕ, ◌+◌, ◌*◌, ◌<◌, ◌≤�
 use Rattle.std.specs.Prelude.{IsTrue, unsigned_abs}
 use Rattle.std.proofs.lemmas.Bool.{and_from, and_parts, cases_lt, eq-eqb, eqb-true, or_left, or_right}
 use Rattle.std.proofs.lemmas.Int.{ints}
+use Rattle.std.proofs.lemmas.Option.{IfSome_then}
 use Rattle.mapping.specs.TestLaws.{by_either, same_test}
 use Rattle.span_fill.specs.BitRows.{has_bit}
 use Rattle.span_fill.specs.MaskFrames.{first_row, marks_in, mask_row}
@@ -10,12 +11,13 @@ use Rattle.span_fill.specs.Spans.{in_region, in_span}
 use Rattle.span_fill.specs.Steps.{TakesStep}
 use Rattle.span_fill.specs.Strokes.{on_line, step_at}
 use Rattle.span_fill.proofs.MaskCoverLemmas.{before_last}
+use Rattle.span_fill.proofs.MaskRunLemmas.{run_around}
 use Rattle.span_fill.proofs.SpanLemmas.{in_from, is_in}
 use Rattle.span_fill.proofs.StepMarkLemmas.{marked_by, pixel_marks, same_pixel}
 use Rattle.span_fill.proofs.mask_marks.mark_steps.Goals as goal
 
-pub mark_row-requires-clause-first : goal.mark_row-requires-clause-first
-mark_row-requires-clause-first c =
+pub mark_around-requires-clause-first : goal.mark_around-requires-clause-first
+mark_around-requires-clause-first c =
     let takes : TakesStep c.loop-pixel.steps c.next.new.self c.in-Some.pixel = c.in-Some.ensures in
     let region = c.loop-pixel.invariant.region ∙ c.new-steps.ensures.region in
     let there = c.surface_rows-region.ensures.no_other c.in-Some.pixel.x c.in-Some.pixel.y (subst (λ r. IsTrue (in_region r c.in-Some.pixel.x c.in-Some.pixel.y)) region takes.given.inside) in
@@ -23,8 +25,8 @@ mark_row-requires-clause-first c =
     let row = c.row_around.ensures.row in
     omega (arith, ints, low, row)
 
-pub mark_row-requires-clause-last : goal.mark_row-requires-clause-last
-mark_row-requires-clause-last c =
+pub mark_around-requires-clause-last : goal.mark_around-requires-clause-last
+mark_around-requires-clause-last c =
     let takes : TakesStep c.loop-pixel.steps c.next.new.self c.in-Some.pixel = c.in-Some.ensures in
     let region = c.loop-pixel.invariant.region ∙ c.new-steps.ensures.region in
     let there = c.surface_rows-region.ensures.no_other c.in-Some.pixel.x c.in-Some.pixel.y (subst (λ r. IsTrue (in_region r c.in-Some.pixel.x c.in-Some.pixel.y)) region takes.given.inside) in
@@ -32,6 +34,15 @@ mark_row-requires-clause-last c =
     let row = c.row_around.ensures.row in
     let rows = c.requires.rows in
     omega (arith, ints, high, row, rows)
+
+pub mark_around-requires-clause-run : goal.mark_around-requires-clause-run
+mark_around-requires-clause-run c =
+    let takes : TakesStep c.loop-pixel.steps c.next.new.self c.in-Some.pixel = c.in-Some.ensures in
+    let pixel = c.in-Some.pixel in
+    let region = c.loop-pixel.invariant.region ∙ c.new-steps.ensures.region in
+    let there = c.surface_rows-region.ensures.no_other pixel.x pixel.y (subst (λ r. IsTrue (in_region r pixel.x pixel.y)) region takes.given.inside) in
+    let on : IsTrue (on_line c.args.line (pos pixel.x) (pos pixel.y)) = subst (λ l. IsTrue (on_line l (pos pixel.x) (pos pixel.y))) c.loop-pixel.invariant.line takes.given.on in
+    IfSome_then c.runs_of-runs.result c.runs_of-runs.ensures (λ runs are. run_around c.args.frame c.args.line c.args.from c.args.count pixel c.row_around.result runs c.requires.frame.nib are on there.0 there.1 c.row_around.ensures.row c.row_around.ensures.from c.row_around.ensures.to)
 
 pub loop-pixel-preserved : goal.loop-pixel-preserved
 loop-pixel-preserved c =
@@ -46,7 +57,7 @@ loop-pixel-preserved c =
     let at : step_at c.args.line (pos pixel.x) (pos pixel.y) ≡ c.loop-pixel.steps.next = ap (λ l. step_at l (pos pixel.x) (pos pixel.y)) (sym there.line) ∙ takes.given.at in
     let row = c.row_around.ensures.row in
     let rows = c.requires.rows in
-    let set = c.mark_row.ensures.row in
+    let set = c.mark_around.ensures.row in
     record {
       sound = λ x i wide high new.
           by_either (has_bit c.loop-pixel.bits x i) (nat_eq i (mask_row frame (unsigned_abs (c.row_around.result.y -ℤ first_row frame))) && in_span c.row_around.result.columns (x + frame.region.columns.from)) (sym (set x i wide high) ∙ new)
@@ -90,7 +101,7 @@ loop-pixel-preserved c =
           rw end (there.last u v line_has (subst (λ r. IsTrue (in_region r u v)) takes.same.region inside));
       line = takes.same.line ∙ there.line;
       region = takes.same.region ∙ there.region;
-      size = record { row_count = c.mark_row.ensures.size.row_count ∙ there.size.row_count; column_count = c.mark_row.ensures.size.column_count ∙ there.size.column_count };
+      size = record { row_count = c.mark_around.ensures.size.row_count ∙ there.size.row_count; column_count = c.mark_around.ensures.size.column_count ∙ there.size.column_count };
     }
 
 pub returns-clause-rows : goal.returns-clause-rows
