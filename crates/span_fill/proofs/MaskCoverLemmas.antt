@@ -4,11 +4,10 @@ use Rattle.std.proofs.Math.Bool.{or-false}
 use Rattle.std.proofs.lemmas.Bool.{and_left, and_parts, ne_eqb, or_left}
 use Rattle.mapping.specs.TestLaws.{by_either, same_test}
 use Rattle.span_fill.specs.BitRows.{BitRowsState, has_bit}
-use Rattle.span_fill.specs.MaskCovers.{AreKnown, CoversLine, CoversRows, CoversToo, IsSpanCovered, KeepsLastRow, KnowsCovered, covers_in, is_covered, is_in_region, is_in_rows, last_row}
+use Rattle.span_fill.specs.MaskCovers.{AreAmong, AreKnown, CoversLine, CoversRows, CoversToo, IsSpanCovered, KeepsLastRow, KnowsCovered, covers_in, is_covered, is_in_region, is_in_rows, last_row}
 use Rattle.span_fill.specs.MaskFrames.{IsMaskFrame, depth_of, marks, marks_at, marks_in, mask_row, row_at, row_count, spare_of}
 use Rattle.span_fill.specs.MaskMarks.{MarksLine, MarksRows, SetsToo}
-use Rattle.span_fill.specs.Spans.{in_span}
-use Rattle.span_fill.specs.StrokeMasks.{height_of, width_of}
+use Rattle.span_fill.specs.StrokeMasks.{height_of}
 use Rattle.span_fill.specs.WideStrokes.{any_below, on_wide_line, row_of}
 use Rattle.span_fill.specs.declared.line.Line.{Line}
 use Rattle.span_fill.specs.declared.mask_frame.MaskFrame.{MaskFrame}
@@ -74,7 +73,7 @@ rows_spared frame line from count bits known there x y wide high =
 -- nor does a line in a span of columns that is covered
 pub line_spared :
     (frame : MaskFrame) (line : Line) (bits : BitRowsState) (columns : Span) → IsSpanCovered frame bits columns
-    → ((x : ℕ) → x < width_of frame.region → is_in_region frame line x ≡ true → in_span columns x ≡ true) → CoversLine frame line bits bits
+    → AreAmong frame (is_in_region frame line) columns → CoversLine frame line bits bits
 line_spared frame line bits columns covered there x y wide high =
     let on = on_wide_line frame.nib line (pos (x + frame.region.columns.from)) (pos (y + frame.region.rows.from)) in
     same_test (is_covered frame bits x y) (is_covered frame bits x y || on)

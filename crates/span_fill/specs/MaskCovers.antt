@@ -64,6 +64,10 @@ KeepsLastRow frame old new = (x : ℕ) → x < width_of frame.region → has_bit
 abbrev pub AreKnown : MaskFrame → BitRowsState → (ℕ → Bool) → Type 0
 AreKnown frame bits test = (x : ℕ) → x < width_of frame.region → test x ≡ true → has_bit bits x (last_row frame) ≡ true
 
+-- the columns of the region that pass a test are among these, which are counted from its first one
+abbrev pub AreAmong : MaskFrame → (ℕ → Bool) → Span → Type 0
+AreAmong frame test columns = (x : ℕ) → x < width_of frame.region → test x ≡ true → in_span columns x ≡ true
+
 -- columns of a surface have those of the region that pass a test
 abbrev pub HoldsColumns : MaskFrame → (ℕ → Bool) → Span → Type 0
 HoldsColumns frame test columns =

@@ -5,11 +5,11 @@ ghost use Rattle.std.specs.Prelude.{◌≡◌, ◌+◌, ◌-◌, ◌*◌, ◌^�
 ghost use Rattle.mapping.specs.Nibs.{IsNib, reach_after, reach_before};
 ghost use Rattle.span_fill.specs.BitRows.{HasSize};
 ghost use Rattle.span_fill.specs.Lines.{HasNearEnds};
-ghost use Rattle.span_fill.specs.MaskCovers.{AreKnown, HoldsAllBetween, HoldsColumns, IsCoveredAlike, IsSpanCovered, KnowsCovered, is_in_region, is_in_rows, tall_nib, tall_row};
+ghost use Rattle.span_fill.specs.MaskCovers.{AreAmong, AreKnown, HoldsAllBetween, HoldsColumns, IsCoveredAlike, IsSpanCovered, KnowsCovered, is_in_region, is_in_rows, tall_nib, tall_row};
 ghost use Rattle.span_fill.specs.MaskFrames.{IsMaskFrame, row_count};
 ghost use Rattle.span_fill.specs.MaskMarks.{HasRows};
 ghost use Rattle.span_fill.specs.Spans.{in_span};
-ghost use Rattle.span_fill.specs.StrokeMasks.{height_of, width_of};
+ghost use Rattle.span_fill.specs.StrokeMasks.{height_of};
 ghost use Rattle.span_fill.specs.WideLines.{HasAllRows};
 
 use crate::bit_rows::BitRows;
@@ -93,7 +93,7 @@ fn are_covered(bits: &BitRows, columns: Span, frame: MaskFrame) -> bool
 /// are counted from the region's first column.
 pub(crate) fn is_around_within(line: Line, frame: MaskFrame, columns: Span) -> bool
     requires { IsMaskFrame frame }
-    ensures { IsTrue result → (x : ℕ) → x < width_of frame.region → is_in_region frame line x ≡ true → in_span columns x ≡ true }
+    ensures { IsTrue result → AreAmong frame (is_in_region frame line) columns }
 {
     let part = frame.columns_of(columns_around(line, frame));
     part.from >= part.to || (columns.from <= part.from && part.to <= columns.to)
