@@ -25,6 +25,9 @@ use dc_stack::Clip;
 use mapping::{Mix, Nib};
 use span_fill::{Line, Outline, Region, WideLine};
 
+/// So few lines take less time by rows of spans than through a mask, which is cleared and read whole.
+const FEW_LINES: usize = 4;
+
 /// To look at so many lines takes about as long as to clear and read a mask of the largest band.
 const MANY_LINES: usize = 1024;
 
@@ -62,7 +65,7 @@ pub(crate) fn stroke_wide_lines<O: Outline + Copy>(
 }
 
 /// Strokes the lines that the row buffer has taken, in a region that contains everything visible of them: through a mask,
-/// or if there is none, by rows of spans.
+/// or if there is none or there are few lines, by rows of spans.
 pub(crate) fn stroke_kept_wide(
     canvas: &mut Canvas,
     scratch: &mut DrawingScratch,
@@ -80,10 +83,12 @@ pub(crate) fn stroke_kept_wide(
 {
     let DrawingScratch { rows, mask, .. } = &mut *scratch;
     let kept = LineList { rest: rows.lines() };
-    if let Some(mask) = mask {
-        let part = reached_of(kept, stroke.nib, drawn);
-        stroke_by_mask(canvas, mask, kept, part, stroke);
-        return;
+    if kept.count() > FEW_LINES {
+        if let Some(mask) = mask {
+            let part = reached_of(kept, stroke.nib, drawn);
+            stroke_by_mask(canvas, mask, kept, part, stroke);
+            return;
+        }
     }
     rows.begin_kept_stroke(stroke.nib, drawn.rows.from);
     paint_begun(canvas, scratch, drawn, stroke);

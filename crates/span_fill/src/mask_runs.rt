@@ -26,7 +26,8 @@ pub(crate) struct Runs {
 }
 
 /// What is known of a line in some rows of lines: `None` if the nib has more than 64 columns, if not all of them lie in
-/// the region around each end of the line, or if some but not all of these rows share a row of the mask.
+/// the region around each end of the line, or if some but not all of these rows share a row of
+/// the mask.
 pub(crate) fn runs_of(line: Line, frame: MaskFrame, from: u32, count: u32) -> Option<Runs>
     requires frame { IsMaskFrame frame }
     requires some { 1 ≤ height_of frame.region }
@@ -63,7 +64,7 @@ fn shift_of(frame: MaskFrame, from: u32, count: u32) -> Option<u32>
     ensures { IfSome result (IsBehind frame from count) }
 {
     let (height, spare) = (frame.height(), frame.spare());
-    if from + count <= height {
+    if spare == 0 || from + count <= height {
         return Some(0);
     }
     if from + 1 >= height + spare {
