@@ -25,8 +25,8 @@ use dc_stack::Clip;
 use mapping::{Mix, Nib};
 use span_fill::{Line, Outline, Region, WideLine};
 
-/// So few lines take less time by rows of spans than through a mask, which is cleared and read whole.
-const FEW_LINES: usize = 4;
+/// For a line in each so many columns, rows of spans take about as long as a mask, which is cleared and read whole.
+const COLUMNS_A_LINE: u32 = 256;
 
 /// To look at so many lines takes about as long as to clear and read a mask of the largest band.
 const MANY_LINES: usize = 1024;
@@ -83,7 +83,7 @@ pub(crate) fn stroke_kept_wide(
 {
     let DrawingScratch { rows, mask, .. } = &mut *scratch;
     let kept = LineList { rest: rows.lines() };
-    if kept.count() > FEW_LINES {
+    if !are_few(kept.count(), drawn) {
         if let Some(mask) = mask {
             let part = reached_of(kept, stroke.nib, drawn);
             stroke_by_mask(canvas, mask, kept, part, stroke);
@@ -92,6 +92,14 @@ pub(crate) fn stroke_kept_wide(
     }
     rows.begin_kept_stroke(stroke.nib, drawn.rows.from);
     paint_begun(canvas, scratch, drawn, stroke);
+}
+
+/// Whether there are so few lines for a region that rows of spans take less time.
+fn are_few(lines: usize, drawn: Region) -> bool
+    requires { IsOfSide drawn.columns }
+{
+    let width = drawn.columns.to - drawn.columns.from;
+    lines <= (width / COLUMNS_A_LINE) as usize
 }
 
 /// The part of a region that a nib reaches along lines. All of it if there are many lines, since to look at each takes longer
