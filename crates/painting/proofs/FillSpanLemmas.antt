@@ -1,14 +1,13 @@
 -- What remains of a fill after each step.
-use Rattle.std.proofs.Common.{◌≡◌, ℕ, zero, suc, ◌+◌, ◌-◌, ◌*◌, ◌<◌, ◌≤◌, Bool, true, false, ◌&&◌, ◌||◌, ◌==◌, not, nat_le, nat_lt, inl, inr, List, [], ◌∷◌, length, drop, get_or, refl, sym, ap, subst, ◌∙◌, arith}
+use Rattle.std.proofs.Common.{◌≡◌, ℕ, zero, suc, ◌+◌, ◌-◌, ◌<◌, ◌≤◌, Bool, true, false, ◌&&◌, ◌||◌, ◌==◌, nat_le, nat_lt, inl, inr, List, [], ◌∷◌, length, drop, get_or, refl, sym, ap, subst, ◌∙◌, arith}
 use Rattle.std.proofs.lemmas.Bool.{and_parts, and_right, cases_eq, cases_lt, eq-eqb, false_from_ne_true, le-leb, lt-leb, lt-ltb, ne_eqb, true≢false}
 use Rattle.std.proofs.lemmas.Bool.Decides.{nat_tests}
 use Rattle.std.proofs.lemmas.List.{drop_more, drop_all}
 use Rattle.std.proofs.Math.Bool.{or-false}
 use Rattle.canvas.specs.SpanSources.{GivesSpan}
-use Rattle.canvas.specs.Writing.{in_row_span}
 use Rattle.canvas.specs.declared.span_source.RowSpan.{RowSpan}
-use Rattle.span_fill.specs.RowState.{FillsLoneSpan, FillsRow, GivesLone, RowState, RowWork, SameWork, filling, idle, stroking}
-use Rattle.span_fill.specs.Spans.{AreApart, AreRow, in_region, in_span, in_spans}
+use Rattle.span_fill.specs.RowState.{FillsRow, RowState, RowWork, SameWork, filling, idle, stroking}
+use Rattle.span_fill.specs.Spans.{AreApart, in_region, in_span, in_spans}
 use Rattle.span_fill.specs.declared.line.Line.{Line}
 use Rattle.span_fill.specs.declared.span.Region.{Region}
 use Rattle.span_fill.specs.declared.span.Span.{Span}

@@ -2,7 +2,6 @@
 use Rattle.std.proofs.Common.{◌≡◌, ℕ, Bool, true, false, not, ◌&&◌, ◌==◌, nat_le, nat_lt, refl, sym, ◌∙◌}
 use Rattle.canvas.specs.SpanSources.{GivesSpan}
 use Rattle.canvas.specs.Writing.{in_row_span}
-use Rattle.canvas.specs.declared.span_source.RowSpan.{RowSpan}
 use Rattle.span_fill.specs.StrokeMasks.{StrokeMaskState, TakesSpan, pixels_left, to_come, in_row_span as has_pixel}
 use Rattle.span_fill.specs.declared.stroke_mask.RowSpan.{RowSpan as MaskSpan}
 

@@ -1,5 +1,5 @@
 -- Strokes through a mask: what boxes cut out of it, and parts of a region one after another.
-use Rattle.std.proofs.Common.{◌≡◌, ℕ, ◌+◌, ◌-◌, ◌*◌, ◌^◌, ◌<◌, ◌≤◌, Bool, true, false, ◌&&◌, ◌||◌, not, pos, int_le, int_lt, List, [], ◌∷◌, map, arith, refl, ap, sym, ◌∙◌, inl, inr}
+use Rattle.std.proofs.Common.{◌≡◌, ℕ, ◌≤◌, Bool, true, false, ◌&&◌, ◌||◌, not, pos, int_le, int_lt, List, arith, refl, ap, sym, ◌∙◌, inl, inr}
 use Rattle.std.proofs.lemmas.Bool.{and_from, and_parts, cases_lt, or_left, or_right, true≢false}
 use Rattle.mapping.specs.TestLaws.{by_either, same_test}
 use Rattle.mapping.specs.Mixes.{mixed_by}
@@ -7,7 +7,6 @@ use Rattle.mapping.specs.PixelBoxes.{in_box, is_from_to}
 use Rattle.mapping.specs.declared.geometry.Colour.{Colour}
 use Rattle.mapping.specs.declared.geometry.Rect.{Rect}
 use Rattle.canvas.specs.CanvasState.{CanvasState, HasPixel}
-use Rattle.canvas.specs.Writing.{Repaints}
 use Rattle.canvas.specs.WritingLaws.{IsWhole, WritingLaws}
 use Rattle.dc_stack.specs.Clip.{in_boxes, in_kept}
 use Rattle.dc_stack.specs.Values.{placed_value}
@@ -17,7 +16,7 @@ use Rattle.span_fill.specs.WideStrokes.{in_wide_stroke}
 use Rattle.span_fill.specs.declared.line.Line.{Line}
 use Rattle.span_fill.specs.declared.span.Region.{Region}
 use Rattle.span_fill.specs.declared.span.Span.{Span}
-use Rattle.painting.specs.Painted.{PaintsShape, mixing_paint, paints}
+use Rattle.painting.specs.Painted.{PaintsShape, paints}
 use Rattle.painting.specs.PenStrokes.{stroke_paint}
 use Rattle.painting.specs.Regions.{HasVisible}
 use Rattle.painting.specs.Strips.{is_uncut}

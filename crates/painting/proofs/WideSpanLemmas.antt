@@ -1,5 +1,5 @@
 -- The remaining rows of a wide line are what a region has of it, and what is mixed of a region is what is stroked.
-use Rattle.std.proofs.Common.{◌≡◌, ℕ, pos, ◌≤ℤ◌, ◌<ℤ◌, Bool, true, false, ◌&&◌, ◌||◌, int_le, int_lt, [], ◌∷◌, List, arith, refl, ap, sym, ◌∙◌}
+use Rattle.std.proofs.Common.{◌≡◌, ℕ, pos, Bool, true, false, ◌&&◌, ◌||◌, int_le, int_lt, [], ◌∷◌, List, arith, refl, ap, ◌∙◌}
 use Rattle.std.proofs.lemmas.Bool.{and_from, and_parts}
 use Rattle.std.proofs.lemmas.Int.{ints}
 use Rattle.mapping.specs.TestLaws.{int_le-from, int_le-true, int_lt-from, int_lt-true, same_test}

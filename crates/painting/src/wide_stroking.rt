@@ -104,17 +104,17 @@ fn are_few(lines: usize, drawn: Region) -> bool
 
 /// The part of a region that a nib reaches along lines. All of it if there are many lines, since to look at each takes longer
 /// than a large mask.
-fn reached_of(lines: LineList<'_>, nib: Nib, drawn: Region) -> Region
+fn reached_of<O: Outline + Copy>(outline: O, nib: Nib, drawn: Region) -> Region
     requires nib { IsNib nib }
     requires columns { IsOfSide drawn.columns }
     requires rows { IsOfSide drawn.rows }
     ensures part { IsPartOf drawn result }
-    ensures all { HasAllOf drawn (in_wide_stroke nib lines.rest.now) result }
+    ensures all { HasAllOf drawn (in_wide_stroke nib (O.lines outline)) result }
 {
-    if lines.count() > MANY_LINES {
+    if outline.count() > MANY_LINES {
         return drawn;
     }
-    reached_part(lines, nib, drawn)
+    reached_part(outline, nib, drawn)
 }
 
 /// The only line of an outline, if the outline has exactly one and the clip cuts no boxes out.

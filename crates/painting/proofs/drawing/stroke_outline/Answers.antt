@@ -1,16 +1,14 @@
-use Rattle.std.proofs.Common.{◌≡◌, ◌∙◌, ap, refl, sym, rules, arith, List, [], ◌∷◌, Some}
+use Rattle.std.proofs.Common.{◌≡◌, ◌∙◌, ap, refl, sym, rules, arith, [], ◌∷◌, Some}
 use Rattle.mapping.specs.Surface.{Surface, placed_point}
-use Rattle.mapping.specs.declared.geometry.Rect.{Rect}
 use Rattle.dc_stack.specs.Drawing.{figures_painted, rectangle_between, tools_of}
 use Rattle.dc_stack.specs.declared.draw.Painting.TheVariants.{Stroke}
 use Rattle.dc_stack.specs.Draws.{figures_drawn}
 use Rattle.dc_stack.specs.Figures.{figures_of_lists, points_of_figures}
 use Rattle.preflight_cert.specs.Outlines.{line_from}
 use Rattle.preflight_cert.specs.Paint.{solid}
-use Rattle.preflight_cert.specs.Rectangles.{rectangle_lines, rectangle_on}
+use Rattle.preflight_cert.specs.Rectangles.{rectangle_on}
 use Rattle.preflight_cert.specs.Shape.{stroke_of}
 use Rattle.preflight_cert.specs.StrokedOutline.{along, round}
-use Rattle.span_fill.specs.declared.line.Line.{Line}
 use Rattle.painting.specs.FigureEnds.{stroked_ends}
 use Rattle.painting.specs.FigureOutlines.{outline_left}
 use Rattle.painting.specs.PenStrokes.{stroke_paint}

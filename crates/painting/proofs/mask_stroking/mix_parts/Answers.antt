@@ -1,5 +1,5 @@
 -- Part after part, the rows of the region are mixed.
-use Rattle.std.proofs.Common.{◌≡◌, ◌+◌, ◌*◌, ◌<◌, ◌≤◌, refl, ap, arith, subst, sym, ◌∙◌}
+use Rattle.std.proofs.Common.{◌≡◌, refl, ap, arith, subst, ◌∙◌}
 use Rattle.painting.specs.WideSpans.{MixesUncutWide}
 use Rattle.painting.proofs.MaskStrokeLemmas.{before, none_mixed, part_mixed}
 use Rattle.painting.proofs.mask_stroking.mix_parts.Goals as goal

@@ -1,5 +1,5 @@
 -- A span that lies within another does so with its ends in order.
-use Rattle.std.proofs.Common.{◌≡◌, true, arith}
+use Rattle.std.proofs.Common.{arith}
 use Rattle.std.proofs.lemmas.Bool.{and_from, and_parts}
 use Rattle.span_fill.specs.Spans.{in_span}
 use Rattle.painting.proofs.TestLemmas.{column_from, column_true}

@@ -1,9 +1,8 @@
 -- What is covered lies between the ends, as far as the nib reaches.
-use Rattle.std.proofs.Common.{rules, ◌≡◌, true, arith, pos, ◌+ℤ◌, ◌-ℤ◌, ◌≤ℤ◌, FitsSigned}
+use Rattle.std.proofs.Common.{rules, arith, FitsSigned}
 use Rattle.std.specs.Int.{w32, w64}
 use Rattle.std.proofs.lemmas.Bool.{and_from, and_parts}
 use Rattle.std.proofs.lemmas.Int.{ints, to_z-of_z}
-use Rattle.mapping.specs.Nibs.{reach_after, reach_before}
 use Rattle.span_fill.specs.Spans.{in_span}
 use Rattle.painting.proofs.ReachedPartLemmas.{reached_pixel}
 use Rattle.painting.proofs.reached_part.reached_by.Goals as goal

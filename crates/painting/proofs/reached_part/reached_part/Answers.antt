@@ -1,5 +1,5 @@
 -- A line more is reached.
-use Rattle.std.proofs.Common.{◌≡◌, ◌||◌, ◌∷◌, true, List, pos, subst, sym}
+use Rattle.std.proofs.Common.{◌≡◌, ◌||◌, true, List, pos, subst}
 use Rattle.std.proofs.lemmas.Bool.{or_left, or_right}
 use Rattle.mapping.specs.TestLaws.{by_either}
 use Rattle.span_fill.specs.Spans.{in_region}

@@ -1,6 +1,6 @@
 -- The products compare as the quotient and the row do.
-use Rattle.std.proofs.Common.{◌≡◌, ℤ, pos, ◌*ℤ◌, int_lt, FitsSigned, w32, w64, arith, rules, ap, ◌∙◌}
-use Rattle.std.proofs.lemmas.Int.{ints, to_z-of_z}
+use Rattle.std.proofs.Common.{◌≡◌, ℤ, pos, ◌*ℤ◌, int_lt, FitsSigned, w32, w64, rules, ap, ◌∙◌}
+use Rattle.std.proofs.lemmas.Int.{to_z-of_z}
 use Rattle.painting.proofs.MissedLemmas.{quotient_before}
 use Rattle.painting.proofs.regions.lands_above.Goals as goal
 

@@ -1,5 +1,5 @@
 -- A drawing lies outside rows if it ends above them, or doesn't begin above their end.
-use Rattle.std.proofs.Common.{◌≡◌, FitsSigned, w32, rules, sym, ◌∙◌}
+use Rattle.std.proofs.Common.{FitsSigned, w32, rules, sym, ◌∙◌}
 use Rattle.std.proofs.lemmas.Int.{to_z-of_z}
 use Rattle.painting.proofs.MissedLemmas.{outside_else}
 use Rattle.painting.proofs.regions.misses_rows.Goals as goal

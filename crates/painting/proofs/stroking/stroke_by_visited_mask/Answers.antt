@@ -1,4 +1,4 @@
-use Rattle.std.proofs.Common.{◌≡◌, ◌&&◌, Bool, refl, ap, sym, ◌∙◌}
+use Rattle.std.proofs.Common.{◌&&◌, Bool, refl, ap, sym, ◌∙◌}
 use Rattle.mapping.specs.Mixes.{mixed_by}
 use Rattle.dc_stack.specs.Values.{placed_value}
 use Rattle.span_fill.specs.Spans.{in_region}

@@ -1,5 +1,5 @@
 -- The remaining rows of the line are what the region has of it.
-use Rattle.std.proofs.Common.{◌≡◌, ◌&&◌, ◌<◌, ◌≤◌, ◌^◌, ℕ, pos, to_z, w32, [], ◌∷◌, arith, refl, ◌∙◌}
+use Rattle.std.proofs.Common.{◌≡◌, ◌&&◌, ◌≤◌, ℕ, pos, to_z, w32, [], ◌∷◌, arith, refl, ◌∙◌}
 use Rattle.std.proofs.lemmas.Int.{to_z_pos}
 use Rattle.mapping.specs.Mixes.{mixed_by}
 use Rattle.span_fill.specs.Spans.{in_region}

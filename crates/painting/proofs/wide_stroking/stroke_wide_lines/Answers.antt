@@ -1,5 +1,5 @@
 -- What a region has of a lone line is what is stroked, if nothing is cut out.
-use Rattle.std.proofs.Common.{◌≡◌, true, List, subst, sym, ◌∙◌}
+use Rattle.std.proofs.Common.{List, subst, sym}
 use Rattle.dc_stack.specs.Values.{placed_value}
 use Rattle.span_fill.specs.WideStrokes.{in_wide_stroke}
 use Rattle.span_fill.specs.declared.line.Line.{Line}

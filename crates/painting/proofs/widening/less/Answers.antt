@@ -1,5 +1,5 @@
 -- Numbers within these limits fit 32 bits.
-use Rattle.std.proofs.Common.{◌≡◌, ◌-ℤ◌, FitsSigned, w32, arith}
+use Rattle.std.proofs.Common.{◌-ℤ◌, FitsSigned, w32, arith}
 use Rattle.std.proofs.lemmas.Int.{ints, fits_signed_from_abs, to_z-of_z}
 use Rattle.mapping.specs.Limits.{place_limit}
 use Rattle.painting.proofs.widening.less.Goals as goal

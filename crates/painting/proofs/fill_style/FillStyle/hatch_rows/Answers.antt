@@ -1,5 +1,5 @@
 -- The next row of the hatch is put, and the eight repeat.
-use Rattle.std.proofs.Common.{◌≡◌, ◌%◌, ℕ, Bool, Option, Some, cond, get_or, length, is_some, inl, inr, ap, sym, subst, ◌∙◌, arith}
+use Rattle.std.proofs.Common.{◌≡◌, ◌%◌, ℕ, Bool, Option, Some, cond, get_or, is_some, inl, inr, ap, sym, subst, ◌∙◌, arith}
 use Rattle.std.proofs.Math.ListN.{set}
 use Rattle.std.proofs.lemmas.Bool.{cases_eq}
 use Rattle.std.proofs.lemmas.List.{get_or-set_other, get_or-set_same, length-set}
@@ -10,7 +10,6 @@ use Rattle.raster_ops.specs.Hatches.{has_cell}
 use Rattle.raster_ops.specs.declared.rows.BrushRow.TheVariants.{Hatched}
 use Rattle.painting.specs.FillStyles.{colour_of, colour_seen, fill_style_paint}
 use Rattle.painting.specs.Joined.{joined_if}
-use Rattle.painting.specs.declared.row_op.RowOp.{RowOp}
 use Rattle.painting.specs.declared.row_op.RowOp.TheVariants.{Nothing}
 use Rattle.painting.proofs.HatchLemmas.{IsRowOpOf, hatch_repeats}
 use Rattle.painting.proofs.fill_style.FillStyle.hatch_rows.Goals as goal

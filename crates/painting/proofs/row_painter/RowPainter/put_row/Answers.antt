@@ -1,4 +1,4 @@
-use Rattle.std.proofs.Common.{◌≡◌, ◌%◌, arith, get_or, length, refl, ◌∙◌}
+use Rattle.std.proofs.Common.{◌≡◌, ◌%◌, arith, length, refl, ◌∙◌}
 use Rattle.std.proofs.lemmas.List.{get_or_default}
 use Rattle.painting.specs.RowOps.{repeated_row_op}
 use Rattle.painting.specs.declared.row_op.RowOp.TheVariants.{Nothing}
