@@ -23,7 +23,7 @@ use crate::wide_spans::WideLineSpans;
 use canvas::{Canvas, writing_law};
 use dc_stack::Clip;
 use mapping::{Mix, Nib};
-use span_fill::{Line, Outline, Region, WideLine};
+use span_fill::{Line, Outline, Region, StrokeMask, WideLine};
 
 /// For a line in each so many columns, rows of spans take about as long as a mask, which is cleared and read whole.
 const COLUMNS_A_LINE: u32 = 256;
@@ -32,7 +32,7 @@ const COLUMNS_A_LINE: u32 = 256;
 const MANY_LINES: usize = 1024;
 
 /// Strokes the lines of an outline by a nib of several pixels. A lone line is painted row by row, if the clip cuts no
-/// boxes out. The row buffer keeps other lines, so that each is placed once.
+/// boxes out. The row buffer keeps other lines if they are read more than once, so that each is placed once.
 pub(crate) fn stroke_wide_lines<O: Outline + Copy>(
     canvas: &mut Canvas,
     scratch: &mut DrawingScratch,
@@ -59,6 +59,14 @@ pub(crate) fn stroke_wide_lines<O: Outline + Copy>(
         mix_wide_line(canvas, line, stroke.nib, drawn, stroke.mix);
         return;
     }
+    let count = lines.points as usize;
+    if let Some(mask) = &mut scratch.mask {
+        if !are_few(count, drawn) && is_one_part(mask, drawn) {
+            let part = reached_of(outline, count, stroke.nib, drawn);
+            stroke_by_mask(canvas, mask, outline, part, stroke);
+            return;
+        }
+    }
     let mut placed = outline;
     scratch.rows.keep(&mut placed);
     stroke_kept_wide(canvas, scratch, drawn, stroke);
@@ -83,9 +91,10 @@ pub(crate) fn stroke_kept_wide(
 {
     let DrawingScratch { rows, mask, .. } = &mut *scratch;
     let kept = LineList { rest: rows.lines() };
-    if !are_few(kept.count(), drawn) {
+    let count = kept.count();
+    if !are_few(count, drawn) {
         if let Some(mask) = mask {
-            let part = reached_of(kept, stroke.nib, drawn);
+            let part = reached_of(kept, count, stroke.nib, drawn);
             stroke_by_mask(canvas, mask, kept, part, stroke);
             return;
         }
@@ -102,16 +111,24 @@ fn are_few(lines: usize, drawn: Region) -> bool
     lines <= (width / COLUMNS_A_LINE) as usize
 }
 
+/// Whether a mask has memory for all of a region.
+fn is_one_part(mask: &StrokeMask, drawn: Region) -> bool
+    requires columns { IsOfSide drawn.columns }
+    requires rows { IsOfSide drawn.rows }
+{
+    mask.part_of(drawn).rows.to == drawn.rows.to
+}
+
 /// The part of a region that a nib reaches along lines. All of it if there are many lines, since to look at each takes longer
 /// than a large mask.
-fn reached_of<O: Outline + Copy>(outline: O, nib: Nib, drawn: Region) -> Region
+fn reached_of<O: Outline + Copy>(outline: O, count: usize, nib: Nib, drawn: Region) -> Region
     requires nib { IsNib nib }
     requires columns { IsOfSide drawn.columns }
     requires rows { IsOfSide drawn.rows }
     ensures part { IsPartOf drawn result }
     ensures all { HasAllOf drawn (in_wide_stroke nib (O.lines outline)) result }
 {
-    if outline.count() > MANY_LINES {
+    if count > MANY_LINES {
         return drawn;
     }
     reached_part(outline, nib, drawn)

@@ -5,6 +5,7 @@ use Rattle.span_fill.specs.WideStrokes.{in_wide_stroke}
 use Rattle.span_fill.specs.declared.line.Line.{Line}
 use Rattle.painting.specs.PenStrokes.{stroke_paint}
 use Rattle.painting.specs.WideSpans.{MixesWide}
+use Rattle.painting.proofs.ReachedPartLemmas.{visible_part}
 use Rattle.painting.proofs.RegionLemmas.{none_seen}
 use Rattle.painting.proofs.RowLemmas.{few_written}
 use Rattle.painting.proofs.VisibleLemmas.{seen_within}
@@ -32,6 +33,14 @@ returns-then-drawn-clause-pixels g c =
     let drawn = c.visible_in-drawn in
     none_seen (stroke_paint stroke) shape c.args.canvas.now c.writing_law.ensures c.whole_law.ensures.whole drawn.result
     (seen_within _ _ shape c.args.canvas.now drawn.result (c.on_surface.ensures shape c.requires.within) drawn.ensures.visible) c.if-drawn.true
+
+pub stroke_by_mask-requires-clause-visible : goal.stroke_by_mask-requires-clause-visible
+stroke_by_mask-requires-clause-visible g c =
+    let stroke = c.args.stroke.now in
+    let shape = in_wide_stroke stroke.nib (g.O.Outline.lines c.args.lines.outline) in
+    let drawn = c.visible_in-drawn in
+    visible_part (placed_value stroke.clip.now) shape c.args.canvas.now drawn.result c.reached_of-part.result (seen_within _ _ shape c.args.canvas.now drawn.result (c.on_surface.ensures shape c.requires.within) drawn.ensures.visible)
+    c.reached_of-part.ensures.part c.reached_of-part.ensures.all
 
 pub stroke_kept_wide-requires-clause-visible : goal.stroke_kept_wide-requires-clause-visible
 stroke_kept_wide-requires-clause-visible g c =
