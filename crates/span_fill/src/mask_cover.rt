@@ -48,15 +48,24 @@ fn cover_lines<O: Outline>(bits: &mut BitRows, outline: &mut O, frame: MaskFrame
     let most = frame.reading_rows();
     let (mut rows, mut known) = (0_u32, None);
     while let Some(line) = outline.next_line() {
-        rows = rows.wrapping_add(cover_next(bits, line, frame, known));
+        let marked = cover_next(bits, line, frame, known);
+        // (to read a line counts like a row: the rows that share one aren't marked one by one)
+        rows = rows.wrapping_add(marked).wrapping_add(1);
         if rows >= most {
             let columns = find_known(bits, frame);
             if columns.from == 0 && columns.to >= frame.width() {
                 return;
             }
-            (rows, known) = (0, Some(columns));
+            (rows, known) = (0, if_any(columns));
         }
     }
+}
+
+/// A span, if it has a column.
+fn if_any(columns: Span) -> Option<Span>
+    ensures { IfSome result (λ same. same ≡ columns) }
+{
+    (columns.from < columns.to).then_some(columns)
 }
 
 /// Covers what the nib covers along a line. Columns in which all pixels are known to be covered may have been found.
