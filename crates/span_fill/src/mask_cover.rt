@@ -70,6 +70,7 @@ fn if_any(columns: Span) -> Option<Span>
 
 /// Covers what the nib covers along a line. Columns in which all pixels are known to be covered may have been found.
 /// Returns how many rows of lines were marked one by one.
+#[inline(always)]
 fn cover_next(bits: &mut BitRows, line: Line, frame: MaskFrame, known: Option<Span>) -> u32
     requires frame { IsMaskFrame frame }
     requires size { HasRows frame bits.old }
@@ -88,6 +89,7 @@ fn cover_next(bits: &mut BitRows, line: Line, frame: MaskFrame, known: Option<Sp
 }
 
 /// The same for a line while nothing is known to be covered.
+#[inline(always)]
 fn cover_new_line(bits: &mut BitRows, line: Line, frame: MaskFrame) -> u32
     requires frame { IsMaskFrame frame }
     requires size { HasRows frame bits.old }

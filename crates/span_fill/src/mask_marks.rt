@@ -24,6 +24,7 @@ use crate::wide_line::{WideLine, WideRow};
 use mapping::{Nib, Point, reach_after, reach_before};
 
 /// Marks what the nib's columns cover along a line. Returns how many rows were marked one by one.
+#[inline]
 pub(crate) fn mark_line(bits: &mut BitRows, line: Line, frame: MaskFrame) -> u32
     requires frame { IsMaskFrame frame }
     requires size { HasRows frame bits.old }
@@ -137,7 +138,7 @@ fn mark_around(bits: &mut BitRows, row: WideRow, frame: MaskFrame, runs: Option<
 fn is_steep_inside(line: Line) -> bool
     ensures { IsTrue result → HasLine largest_surface line }
 {
-    is_inside(line.from) && is_inside(line.to) && runs_y_major(line)
+    runs_y_major(line) && is_inside(line.from) && is_inside(line.to)
 }
 
 /// Whether a point lies within the largest surface.
