@@ -2,4 +2,4 @@
 
 /// The line that `--version` writes: the version, and the checksum of all sources but this one.
 pub(crate) const VERSION: &str =
-    "metaplay 1.1.0 (sources 55b205d91a62dc47aa44ab1e0fb5e10bf77f1908a6435281d1973df5aab6e232)\n";
+    "metaplay 1.1.0 (sources 768b932c37f9f76c9b17cdbea40a3a622e4047a5173b599945a0edf222e15de0)\n";
