@@ -11,12 +11,13 @@ from concurrent.futures import ThreadPoolExecutor
 
 import instruction_files
 import row_files
+import slip_files
 import stroke_files
 from print_files import PARTS, named_print, under_print
 from writers import PROGRAM, ROOT
 
 # The files whose instructions are counted under both profiles, and those of them with a limit of their own.
-BOTH = instruction_files.FILES | row_files.FILES | stroke_files.FILES
+BOTH = instruction_files.FILES | row_files.FILES | stroke_files.FILES | slip_files.FILES
 CLOSE_BOTH = instruction_files.CLOSE | row_files.CLOSE
 
 # Each file under the core profile and under the print profile, and those whose work is in parts of a unit.
@@ -49,7 +50,7 @@ def count(program, name):
         words = [valgrind, "--tool=callgrind", "--callgrind-out-file=/dev/null", os.path.abspath(program), *counted.words()]
         ended = subprocess.run(words, cwd=folder, env={}, stdout=subprocess.DEVNULL, stderr=subprocess.PIPE, text=True)
     told = re.search(r"Collected : (\d+)", ended.stderr)
-    if ended.returncode != 0 or told is None:
+    if ended.returncode != counted.status or told is None:
         raise Uncounted(f"{name}: status {ended.returncode}\n{ended.stderr[-1000:]}")
     return int(told[1])
 

@@ -8,13 +8,14 @@ from writers import BETWEEN, EMF, MASKED, PATCOPY, PATINVERT, SRCCOPY, WMF, Bitm
 
 
 class Counted(NamedTuple):
-    """A file, the surface that it is shown on, or another command that it is given to, and the options for its rules."""
+    """A file, the surface that it is shown on, or another command that it is given to, the options for its rules, and the status that is wanted."""
 
     given: bytes
     width: int
     height: int
     command: str = "show"
     options: tuple[str, ...] = ()
+    status: int = 0
 
     def sides(self):
         """The words for its surface."""

@@ -135,13 +135,13 @@ class Launcher(Folder):
         self.assertLess(time.monotonic() - start, 20)
 
     def test_a_build_that_is_stopped_ends(self):
-        (self.kit / "seconds").write_text("30")
+        (self.kit / "seconds").write_text("100")
         for number in (signal.SIGTERM, signal.SIGHUP, signal.SIGINT):
             self.calls()
             run = self.begin("list", "x")
             self.wait_for(lambda: (self.kit / "calls").exists())
             run.send_signal(number)
-            out, _ = run.communicate(timeout=10)
+            out, _ = run.communicate(timeout=60)
             self.assertEqual((run.returncode, out), (3, ""), number)
             self.assertEqual(sorted(path.name for path in (self.root / "crates/meta_main/out").iterdir()), ["lock"])
 
