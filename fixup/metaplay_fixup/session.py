@@ -1,0 +1,79 @@
+"""What converting EMF and WMF has in common: the state, the output, and the record at hand."""
+
+from __future__ import annotations
+
+from collections.abc import Sequence
+
+from .faults import Fault, FaultName
+from .options import Options
+from .output import Action, Entry, Output, Source
+from .reader import Metafile
+from .records import Box, Fields, Kind, Table
+from .state import SavedStates, State
+from .text import Note, TextLayer
+
+
+class Session:
+    """A conversion that goes on from record to record. `kind` is the kind of the record at hand, whose bytes are `data`."""
+
+    def __init__(self, metafile: Metafile, options: Options, texts: TextLayer | None, table: Table) -> None:
+        self.metafile = metafile
+        self.options = options
+        self.texts = texts
+        self.table = table
+        self.state = State()
+        self.saved = SavedStates()
+        self.output = Output()
+        self.number = 0
+        self.data = b""
+        self.kind: Kind | None = None
+
+    def begin(self, number: int, data: bytes) -> None:
+        """Takes a record in hand."""
+        self.number = number
+        self.data = data
+        self.kind = self.table.find(self.table.layout.number(data))
+
+    @property
+    def kind_at_hand(self) -> Kind:
+        """The kind of the record at hand. Raises Fault UnknownRecord if the standard has none."""
+        if self.kind is None:
+            raise Fault(FaultName.UnknownRecord)
+        return self.kind
+
+    @property
+    def fields(self) -> Fields:
+        """The fixed fields of the record at hand. Raises Fault BadParams if they aren't all there."""
+        return self.kind_at_hand.read(self.data)
+
+    def write(self, name: str, *numbers: int, rest: bytes = b"") -> bytes:
+        """A record of a kind by its name."""
+        return self.table.named(name).write(*numbers, rest=rest)
+
+    def keep(self) -> Entry:
+        """Takes the record at hand over as it is."""
+        return self.output.add(self.number, Source.KEPT, (self.data,))
+
+    def replace(self, action: Action, records: Sequence[bytes] = ()) -> Entry:
+        """Puts records, perhaps none, in the place of the one at hand, and reports it."""
+        self.output.report(self.number, self.kind_at_hand.name, action)
+        return self.output.add(self.number, Source.REPLACED, records)
+
+    def replace_text(self, action: Action, records: Sequence[bytes], box: Box | None, note: Note) -> Entry:
+        """The same for text, with what it covers in device units and what the report says of it."""
+        self.output.report(self.number, self.kind_at_hand.name, action, box, note)
+        return self.output.add(self.number, Source.REPLACED, records)
+
+    def insert(self, *records: bytes) -> None:
+        """Puts records before the one at hand."""
+        self.output.add(self.number, Source.INSERTED, records)
+
+    def save(self) -> None:
+        """Saves the state, and keeps the record."""
+        self.saved.save(self.state)
+        self.keep()
+
+    def restore(self) -> None:
+        """Restores a state, and keeps the record."""
+        self.state = self.saved.restore(self.fields["saved"])
+        self.keep()
