@@ -7,7 +7,6 @@ from collections.abc import Sequence
 from .affine import Point
 from .curves import flattened
 from .emf_session import EmfSession
-from .emf_state import keep_with_colour
 from .objects import colour_word, read_colour
 from .output import Action
 from .records import Box
@@ -203,7 +202,7 @@ def _box(session: EmfSession, corners: Sequence[Point], origin: Point) -> bytes:
 def pixel(session: EmfSession) -> None:
     """EMR_SETPIXELV."""
     if session.state.is_plain:
-        keep_with_colour(session)
+        session.keep_with_colour()
         return
     colour = colour_word(read_colour(session.fields["colour"], session.state.palette))
     place = session.state.device.apply(session.fields.point())

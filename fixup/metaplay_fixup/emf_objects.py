@@ -4,7 +4,6 @@ from __future__ import annotations
 
 from .bitmaps import plays_as_stored, read_picture, stored
 from .emf_session import EmfSession
-from .emf_state import keep_with_colour
 from .faults import Fault, FaultName
 from .objects import FIRST_STOCK, Brush, Palette, Pen, logical_font, read_palette, stock_object
 from .output import Action
@@ -69,7 +68,7 @@ def _with_colour(session: EmfSession, is_null: bool) -> bytes:
     if is_null:
         session.keep()
     else:
-        keep_with_colour(session)
+        session.keep_with_colour()
     return session.output.entries[-1].records[0]
 
 

@@ -7,7 +7,7 @@ from dataclasses import replace
 from .affine import Point
 from .emf_session import EmfSession
 from .faults import Fault, FaultName
-from .objects import colour_word, plays_as_written, read_colour
+from .objects import read_colour
 from .output import Action
 from .state import ANISOTROPIC, ISOTROPIC, TEXT_MODE
 from .worlds import IDENTITY_WORLD, World, modified, read_world
@@ -143,17 +143,7 @@ def text_colour(session: EmfSession) -> None:
 def background_colour(session: EmfSession) -> None:
     """EMR_SETBKCOLOR."""
     session.state.background = read_colour(session.fields["colour"], session.state.palette)
-    keep_with_colour(session)
-
-
-def keep_with_colour(session: EmfSession) -> None:
-    """Keeps a record with a colour, or replaces a colour of the palette by its red, green and blue."""
-    reference = session.fields["colour"]
-    if plays_as_written(reference):
-        session.keep()
-        return
-    colour = read_colour(reference, session.state.palette)
-    session.replace(Action.COLOUR, [session.kind_at_hand.changed(session.data, colour=colour_word(colour))])
+    session.keep_with_colour()
 
 
 def text_justification(session: EmfSession) -> None:

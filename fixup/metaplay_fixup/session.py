@@ -5,6 +5,7 @@ from __future__ import annotations
 from collections.abc import Sequence
 
 from .faults import Fault, FaultName
+from .objects import colour_word, plays_as_written, read_colour
 from .options import Options
 from .output import Action, Entry, Output, Source
 from .reader import Metafile
@@ -63,6 +64,18 @@ class Session:
         """The same for text, with what it covers in device units and what the report says of it."""
         self.output.report(self.number, self.kind_at_hand.name, action, box, note)
         return self.output.add(self.number, Source.REPLACED, records)
+
+    def keep_with_colour(self) -> None:
+        """Keeps a record with a colour, or replaces a colour of the palette by its red, green and blue.
+
+        Raises Fault PaletteColour as `read_colour` does.
+        """
+        reference = self.fields["colour"]
+        if plays_as_written(reference):
+            self.keep()
+            return
+        colour = colour_word(read_colour(reference, self.state.palette))
+        self.replace(Action.COLOUR, [self.kind_at_hand.changed(self.data, colour=colour)])
 
     def insert(self, *records: bytes) -> None:
         """Puts records before the one at hand."""

@@ -10,6 +10,7 @@ from .clips import NO_CLIP, Clip
 from .faults import Fault, FaultName
 from .objects import BLACK, BLACK_PEN, NO_PALETTE, SYSTEM_FONT, WHITE, WHITE_BRUSH, Brush, Palette, Pen
 from .text import OPAQUE, Colour, LogicalFont, PageToDevice, TextSettings
+from .viewports import UNSCALED, ViewportScale
 from .worlds import IDENTITY_WORLD, World
 
 TEXT_MODE, ISOTROPIC, ANISOTROPIC = 1, 7, 8
@@ -50,7 +51,8 @@ class State:
     """A state. All values are immutable, so a saved state is a copy of the references.
 
     `output_position` is the position that the converted file's player has, or None if it isn't known. `clip` is what was clipped since the
-    clip was removed last, and `meta_clip` stays when it is removed.
+    clip was removed last, and `meta_clip` stays when it is removed. The last three are of WMF: what its records scale the viewport by that
+    they haven't set, the window that they set, and whether they set a viewport.
     """
 
     page: PageMap = field(default_factory=PageMap)
@@ -71,6 +73,9 @@ class State:
     is_clockwise: bool = False
     clip: Clip = NO_CLIP
     meta_clip: Clip = NO_CLIP
+    viewport_scale: ViewportScale = UNSCALED
+    asked_window: Point = _UNITS
+    has_own_viewport: bool = False
     device: Affine = field(default_factory=lambda: PageMap().affine())
 
     def set_page(self, page: PageMap) -> None:
