@@ -12,8 +12,9 @@ from itertools import groupby
 from .affine import Point
 from .faults import Fault, FaultName
 from .fixed import FRACTION_BITS
-from .records import Box, numbers_at
+from .records import numbers_at
 from .shapes import fixed_bounds, without_repeats
+from .text import Box
 
 # The most boxes that the checker lets a file cut out.
 MOST_CUTS = 16

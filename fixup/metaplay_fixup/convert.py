@@ -5,11 +5,13 @@ from __future__ import annotations
 from dataclasses import dataclass
 
 from .emf import convert_emf
+from .emf_session import EmfSession
 from .options import Options
 from .output import Replacement
 from .reader import Form, read_metafile
 from .text import TextLayer
 from .wmf import convert_wmf
+from .wmf_session import WmfSession
 
 
 @dataclass(frozen=True, slots=True)
@@ -32,3 +34,14 @@ def convert(data: bytes, options: Options, texts: TextLayer | None) -> Converted
     if records is None:
         return Converted(data, ())
     return Converted(records, replacements)
+
+
+def chord_tolerance(data: bytes, options: Options) -> int:
+    """How far chords may be from a curve in a conversion of this file: an eighth of a pixel at the bound, in fixed device units.
+
+    A text layer for the file flattens its glyphs by this. Raises Fault for files whose headers can't be read.
+    """
+    metafile = read_metafile(data)
+    if metafile.form is Form.EMF:
+        return EmfSession(metafile, options, None).grid.tolerance
+    return WmfSession(metafile, options, None).tolerance

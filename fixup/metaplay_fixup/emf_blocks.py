@@ -11,8 +11,9 @@ from .affine import Point
 from .emf_kinds import EMF
 from .faults import Fault, FaultName
 from .fixed import FRACTION_BITS, ONE, rounded_quotient
-from .records import Box, Fields
+from .records import Fields
 from .shapes import bounds, check_count, without_repeats
+from .text import Box
 
 # The print profile divides a unit of the frame into at most 4,096 parts, and the longer side of the frame into at most 2^20.
 _MOST_PARTS = 4096

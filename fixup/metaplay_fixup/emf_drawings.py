@@ -9,9 +9,9 @@ from .curves import flattened
 from .emf_session import EmfSession
 from .objects import colour_word, read_colour
 from .output import Action
-from .records import Box
 from .rounds import PageBox
 from .shapes import Figure, corners_of
+from .text import Box
 
 
 def _on_device(session: EmfSession, points: Sequence[Point]) -> list[Point]:

@@ -11,7 +11,7 @@ from .emf_session import EmfSession
 from .faults import Fault, FaultName
 from .output import Action
 from .paths import Path
-from .records import Box
+from .text import Box
 
 # How a region or a path is joined with the clip ([MS-EMF] 2.1.29).
 _AND, _DIFFERENCE, _COPY = 1, 4, 5

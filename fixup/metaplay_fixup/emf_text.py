@@ -11,9 +11,9 @@ from .fixed import FRACTION_BITS
 from .faults import Fault, FaultName
 from .objects import NULL_BRUSH, NULL_PEN, colour_word
 from .output import Action
-from .records import Box, Fields, numbers_at
+from .records import Fields, numbers_at
 from .shapes import bounds
-from .text import CLIPPED_BOX, DISTANCES_IN_PAIRS, OPAQUE_BOX, UPDATE_POSITION, LaidText, TextRecord
+from .text import CLIPPED_BOX, DISTANCES_IN_PAIRS, OPAQUE_BOX, UPDATE_POSITION, Box, LaidText, TextRecord
 from .text_blocks import Fill, TextBlock, TextFills, ink, text_fills
 
 # Options of EMR_SMALLTEXTOUT: it has no box; its characters have one byte each.

@@ -8,8 +8,7 @@ from enum import Enum
 
 from .faults import Fault, FaultName
 from .reader import LONGEST_FILE
-from .records import Box
-from .text import Note
+from .text import Box, Note
 
 
 class Action(Enum):

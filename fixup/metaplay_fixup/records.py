@@ -10,7 +10,6 @@ import struct
 from collections.abc import Mapping, Sequence
 from dataclasses import dataclass
 from enum import Enum
-from typing import NamedTuple
 
 from .affine import Point
 from .faults import Fault, FaultName
@@ -64,15 +63,6 @@ class Fields:
     def point(self, x: str = "x", y: str = "y") -> Point:
         """The point of two fields."""
         return Point(self[x], self[y])
-
-
-class Box(NamedTuple):
-    """Left, top, right and bottom, in this order, perhaps with left above right."""
-
-    left: int
-    top: int
-    right: int
-    bottom: int
 
 
 @dataclass(frozen=True, slots=True)

@@ -6,7 +6,7 @@ from typing import NamedTuple
 
 from .affine import Affine, Point
 from .curves import Direction, Oval, direction_of
-from .records import Box
+from .text import Box
 
 
 class PageBox(NamedTuple):

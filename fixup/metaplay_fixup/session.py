@@ -9,9 +9,9 @@ from .objects import colour_word, plays_as_written, read_colour
 from .options import Options
 from .output import Action, Entry, Output, Source
 from .reader import Metafile
-from .records import Box, Fields, Kind, Table
+from .records import Fields, Kind, Table
 from .state import SavedStates, State
-from .text import Note, TextLayer
+from .text import Box, Note, TextLayer
 
 
 class Session:

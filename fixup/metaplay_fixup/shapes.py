@@ -8,7 +8,7 @@ from typing import NamedTuple
 from .affine import Point
 from .faults import Fault, FaultName
 from .fixed import ceiling_units, floor_units
-from .records import Box
+from .text import Box
 
 MOST_POINTS = 1_048_576
 

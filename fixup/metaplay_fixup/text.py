@@ -4,10 +4,9 @@ from __future__ import annotations
 
 from dataclasses import dataclass
 from enum import Enum
-from typing import Protocol
+from typing import NamedTuple, Protocol
 
 from .affine import Affine, Contour, Point
-from .records import Box
 
 COMPATIBLE = 1
 """GM_COMPATIBLE of [MS-EMF] 2.1.16; all text of a WMF file is laid out so."""
@@ -40,11 +39,21 @@ Colour = tuple[int, int, int]
 """Red, green and blue, each from 0 to 255."""
 
 
+class Box(NamedTuple):
+    """A box. As a record has it, its sides aren't sorted."""
+
+    left: int
+    top: int
+    right: int
+    bottom: int
+
+
 @dataclass(frozen=True, slots=True)
 class LogicalFont:
     """A font as a record asks for it ([MS-WMF] 2.2.1.2, [MS-EMF] 2.2.13).
 
-    Height and width count page units. Escapement and orientation count tenths of a degree. The weight is 0 (any) or from 1 to 1,000.
+    Height and width count page units. Escapement and orientation count tenths of a degree. The weight is 0 (any) or
+    from 1 to 1,000.
     """
 
     height: int
@@ -61,7 +70,10 @@ class LogicalFont:
 
 @dataclass(frozen=True, slots=True)
 class TextSettings:
-    """The state that text is drawn under. The extras count page units: one for each character, one to share among the spaces."""
+    """The state that text is drawn under.
+
+    The extras count page units: one is for each character, one is shared by `break_count` spaces.
+    """
 
     colour: Colour = (0, 0, 0)
     background_colour: Colour = (255, 255, 255)
@@ -76,9 +88,9 @@ class TextSettings:
 class TextRecord:
     """The text of one record.
 
-    `codes` is UTF-16 code units, or the bytes of a string in the font's charset. ETO_SMALL_CHARS of [MS-EMF] 2.3.5.37 stands for code
-    units below 256. `distances_x` and `distances_y` count page units, one for each code unit or byte. `reference` is the record's
-    reference point in page units, or the current position if UPDATE_POSITION is set.
+    `codes` are UTF-16 code units, or the bytes of a string in the font's charset. The small characters of [MS-EMF]
+    2.3.5.37 are code units below 256. `distances_x` and `distances_y` count page units, one for each code unit or
+    byte. `reference` is the record's reference point in page units, or the current position if UPDATE_POSITION is set.
     """
 
     codes: tuple[int, ...] | bytes
@@ -125,9 +137,10 @@ class Choice(Enum):
 class Note:
     """What the report says of a text.
 
-    `font` is the family, `sha256` the digest of its file in hexadecimal, both empty if no font was opened. `made_slant`: the family
-    has no italic, so its upright glyphs were slanted. `code_page` is the one that bytes were read by, or None. `own_widths`: the
-    record has no distances, so the font's widths were taken. `fallbacks` are the families that gave glyphs which the font hasn't.
+    `font` is the family, `style` its style, `sha256` the digest of its file in hexadecimal, all empty if no font was
+    opened. `made_slant`: the family has no italic, so its upright glyphs were slanted. `code_page` is the one that
+    bytes were read by, or None. `own_widths`: the record has no distances, so the font's widths were taken.
+    `fallbacks` are the families that gave glyphs which the font hasn't.
     """
 
     face: str
@@ -146,9 +159,10 @@ class Note:
 class LaidText:
     """A text as contours in fixed device coordinates.
 
-    `glyphs` are filled together, by the winding rule, in the text's colour. Each of `lines` (underline, strike-out) is filled by itself
-    in the same colour. `background` is the cell behind the text, in the background's colour, or None. The box of OPAQUE_BOX isn't part
-    of it. `position` is the new current position in whole page units, or None if the text doesn't move it.
+    `glyphs` are filled together, by the winding rule, in the text's colour. Each of `lines` (underline, strike-out) is
+    filled by itself in the same colour. `background` is the cell behind the text, in the background's colour, or None.
+    The box of OPAQUE_BOX isn't part of it. `position` is the new current position in whole page units, or None if the
+    text doesn't move it.
     """
 
     glyphs: list[Contour]

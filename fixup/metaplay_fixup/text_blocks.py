@@ -9,10 +9,9 @@ from typing import NamedTuple
 from .affine import Contour, Point
 from .faults import Fault, FaultName
 from .output import Entry
-from .records import Box
 from .shapes import corners_of, fixed_bounds
 from .state import State
-from .text import CLIPPED_BOX, OPAQUE_BOX, Colour, LaidText, TextRecord
+from .text import CLIPPED_BOX, OPAQUE_BOX, Box, Colour, LaidText, TextRecord
 
 
 class Fill(NamedTuple):

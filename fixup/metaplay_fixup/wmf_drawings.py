@@ -3,10 +3,10 @@
 from __future__ import annotations
 
 from .affine import Point
-from .records import Box
 from .rounds import PageBox
 from .shapes import Figure
 from .wmf_session import WmfSession
+from .text import Box
 
 
 def _page_box(session: WmfSession) -> PageBox:

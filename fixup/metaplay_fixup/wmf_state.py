@@ -11,9 +11,8 @@ from .emf_state import scaled_side
 from .faults import Fault, FaultName
 from .objects import Brush, Palette, Pen, logical_font, read_colour, read_palette
 from .output import Action
-from .records import Box
 from .state import ANISOTROPIC, ISOTROPIC, TEXT_MODE
-from .text import LogicalFont
+from .text import Box, LogicalFont
 from .viewports import UNSCALED, ViewportScale
 from .wmf_pictures import read_packed, stored_packed
 from .wmf_session import WmfSession

@@ -6,10 +6,10 @@ from .affine import Point
 from .faults import Fault, FaultName
 from .objects import colour_word
 from .output import Action
-from .records import Box, numbers_at
+from .records import numbers_at
 from .shapes import bounds
 from .state import ISOTROPIC
-from .text import CLIPPED_BOX, COMPATIBLE, OPAQUE_BOX, UPDATE_POSITION, TextRecord
+from .text import CLIPPED_BOX, COMPATIBLE, OPAQUE_BOX, UPDATE_POSITION, Box, TextRecord
 from .text_blocks import TextFills, text_fills
 from .wmf_blocks import FineWindow, polygons
 from .wmf_session import WmfSession
