@@ -5,15 +5,8 @@ from __future__ import annotations
 from collections.abc import Callable
 
 from . import emf_blits, emf_drawings, emf_objects, emf_paths, emf_state, emf_text
-from .emf_kinds import EMF
 from .emf_session import EmfSession
-from .faults import Fault, FaultName
-from .marks import marked
-from .options import Options
-from .output import Output, Replacement
-from .reader import Metafile
-from .records import Layout
-from .text import TextLayer
+from .steps import Steps
 
 Handler = Callable[[EmfSession], None]
 
@@ -95,64 +88,4 @@ HANDLERS: dict[int, Handler] = {
 _UNSUPPORTED = {26, 41, 53, 56, 66, 71, 72, 73, 74, 78, 79, 80, 92, 93, 96, 97, 99, 100, 101, 102, 103, 104}
 _UNSUPPORTED |= {111, 112, 113, 118, 121, 122}
 
-TEXT_KINDS = {83, 84, 108}
-
-
-def convert_emf(
-    metafile: Metafile, options: Options, texts: TextLayer | None
-) -> tuple[bytes | None, tuple[Replacement, ...]]:
-    """The converted file, or None if nothing was replaced, and what was. Raises Fault with the record's number."""
-    session = EmfSession(metafile, options, texts)
-    step = _step_of_text if options.text_only else _step
-    for number, data in enumerate(metafile.records):
-        session.begin(number, data)
-        try:
-            step(session)
-        except Fault as fault:
-            raise Fault(fault.name, fault.detail, number) from fault
-    if not session.output.is_changed:
-        return None, ()
-    replacements = sorted(session.output.replacements, key=lambda replacement: replacement.record)
-    return _file(session), tuple(replacements)
-
-
-def _step(session: EmfSession) -> None:
-    """Takes over, or replaces, the record at hand."""
-    number = EMF.layout.number(session.data)
-    if session.number and number in HANDLERS:
-        HANDLERS[number](session)
-    elif session.number and number in _UNSUPPORTED:
-        raise Fault(FaultName.Unsupported, session.kind_at_hand.name)
-    else:
-        session.keep()
-
-
-def _step_of_text(session: EmfSession) -> None:
-    """The same where only text is replaced: other records only change the state, whatever faults they have."""
-    number = EMF.layout.number(session.data)
-    if number in TEXT_KINDS:
-        emf_text.text_alone(session, HANDLERS[number])
-        return
-    output = session.output
-    session.output = Output()
-    try:
-        _step(session)
-    except Fault as fault:
-        if fault.name is FaultName.NoSavedState:
-            raise
-    finally:
-        session.output = output
-    session.keep()
-
-
-def _file(session: EmfSession) -> bytes:
-    """The records with marks, and the header's counts and size ([MS-EMF] 2.3.4.2)."""
-    records = marked(Layout.EMF, session.output.entries)
-    handles = session.header["handles"]
-    records[0] = EMF.named("EMR_HEADER").changed(
-        records[0],
-        bytes=sum(map(len, records)),
-        records=len(records),
-        handles=max(handles, session.extra + 1) if session.uses_extra else handles,
-    )
-    return b"".join(records)
+EMF_STEPS = Steps(HANDLERS, frozenset(_UNSUPPORTED), frozenset({83, 84, 108}))

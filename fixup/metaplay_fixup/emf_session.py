@@ -42,6 +42,31 @@ class EmfSession(Session):
         """The path, if it is open."""
         return self.path if self.path is not None and self.path.is_open else None
 
+    @property
+    def is_at_header(self) -> bool:
+        """Whether the record at hand is the first."""
+        return self.number == 0
+
+    @property
+    def is_in_path(self) -> bool:
+        """Whether drawings are added to a path."""
+        return self.open_path is not None
+
+    def move_record(self) -> bytes:
+        """The record that moves the position to where it is."""
+        return self.write("EMR_MOVETOEX", *self.state.position)
+
+    def file(self, records: list[bytes]) -> bytes:
+        """The file of these records, with counts and sizes in its header ([MS-EMF] 2.3.4.2)."""
+        handles = self.header["handles"]
+        header = EMF.named("EMR_HEADER").changed(
+            records[0],
+            bytes=sum(map(len, records)),
+            records=len(records),
+            handles=max(handles, self.extra + 1) if self.uses_extra else handles,
+        )
+        return header + b"".join(records[1:])
+
     def keep_in_path(self) -> None:
         """Takes over a record that belongs to the path, as long as the path is plain; otherwise the record is left out."""
         path = self.path
@@ -86,7 +111,7 @@ class EmfSession(Session):
     def sync_position(self) -> None:
         """Moves the position of the converted file's player to the file's, for a record that draws from it."""
         if self.state.output_position != self.state.position:
-            self.insert(self.write("EMR_MOVETOEX", *self.state.position))
+            self.insert(self.move_record())
             self.state.output_position = self.state.position
 
     def use_extra(self) -> int:

@@ -2,7 +2,7 @@
 
 from __future__ import annotations
 
-from collections.abc import Callable, Sequence
+from collections.abc import Sequence
 
 from .affine import Point
 from .emf_blocks import Lines, lines_record, origin_near
@@ -171,19 +171,3 @@ def _block(session: EmfSession, text: TextFills, origin: Point) -> list[bytes]:
             records.append(write("EMR_SELECTOBJECT", index))
         records += _polygons(session, fill, origin)
     return [*records, write("EMR_RESTOREDC", -1), write("EMR_DELETEOBJECT", index)]
-
-
-def text_alone(session: EmfSession, handler: Callable[[EmfSession], None]) -> None:
-    """Replaces text where all other records stay, so the world does too, and the position must be set anew if text moves it.
-
-    Raises Fault PathState for text in an open path.
-    """
-    if session.open_path is not None:
-        raise Fault(FaultName.PathState, "text in a path")
-    before = session.state.position
-    handler(session)
-    if session.state.position != before:
-        entry = session.output.entries[-1]
-        move = session.write("EMR_MOVETOEX", *session.state.position)
-        session.output.put_in(entry, len(entry.records), [move])
-        session.shared_text = None

@@ -7,13 +7,15 @@ is an EMR_COMMENT ([MS-EMF] 2.3.3.1), or a META_ESCAPE with the function MFCOMME
 
 from __future__ import annotations
 
+import hashlib
+import json
 import struct
 from collections.abc import Iterable, Sequence
 from enum import Enum
 from itertools import groupby
 
 from .emf_kinds import EMF
-from .output import Entry, Source
+from .output import Entry, Replacement, Source
 from .records import Layout
 from .wmf_kinds import WMF
 
@@ -59,3 +61,19 @@ def _place(layout: Layout, entries: list[Entry]) -> list[bytes]:
     count = sum(entry.source is Source.REPLACED for entry in entries)
     begin, end = (mark(layout, kind, first, count) for kind in (MarkKind.BEGIN, MarkKind.END))
     return [begin, *_flat(entries), end]
+
+
+def stamps(layout: Layout, original: bytes, replacements: Iterable[Replacement]) -> list[bytes]:
+    """The comments before the end of a converted file: the signature, the kind, and a text in JSON.
+
+    The first text has the SHA-256 of the original, and each other one that of a font, with its family.
+    """
+    notes = [replacement.note for replacement in replacements if replacement.note is not None]
+    fonts = sorted({(note.font, note.sha256) for note in notes if note.font})
+    members = [{"original": hashlib.sha256(original).hexdigest()}]
+    members += [{"family": family, "sha256": sha256} for family, sha256 in fonts]
+    return [_stamp(layout, json.dumps(member, separators=(",", ":"))) for member in members]
+
+
+def _stamp(layout: Layout, text: str) -> bytes:
+    return comment(layout, SIGNATURE + struct.pack("<I", MarkKind.STAMP.value) + text.encode("ascii"))

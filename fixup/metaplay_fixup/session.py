@@ -81,6 +81,24 @@ class Session:
         """Puts records before the one at hand."""
         self.output.add(self.number, Source.INSERTED, records)
 
+    @property
+    def is_at_header(self) -> bool:
+        """Whether the record at hand is a header."""
+        return False
+
+    @property
+    def is_in_path(self) -> bool:
+        """Whether drawings are added to a path."""
+        return False
+
+    def move_record(self) -> bytes:
+        """The record that moves the position to where it is."""
+        raise NotImplementedError
+
+    def file(self, records: list[bytes]) -> bytes:
+        """The file of these records, with counts and sizes in its headers."""
+        raise NotImplementedError
+
     def save(self) -> None:
         """Saves the state, and keeps the record."""
         self.saved.save(self.state)

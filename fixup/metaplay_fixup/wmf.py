@@ -5,14 +5,7 @@ from __future__ import annotations
 from collections.abc import Callable
 
 from . import wmf_blits, wmf_drawings, wmf_state, wmf_text
-from .faults import Fault, FaultName
-from .marks import marked
-from .options import Options
-from .output import Output, Replacement
-from .reader import Metafile
-from .records import Layout
-from .text import TextLayer
-from .wmf_kinds import WMF
+from .steps import Steps
 from .wmf_session import WmfSession
 
 Handler = Callable[[WmfSession], None]
@@ -64,63 +57,4 @@ HANDLERS: dict[int, Handler] = {
 # Records that neither the checker plays nor the fix-up replaces.
 _UNSUPPORTED = {0x012A, 0x012B, 0x01F9, 0x0220, 0x0228, 0x0419, 0x0429, 0x0548, 0x06FF, 0x0922, 0x0B23, 0x0D33}
 
-TEXT_KINDS = {0x0521, 0x0A32}
-
-
-def convert_wmf(
-    metafile: Metafile, options: Options, texts: TextLayer | None
-) -> tuple[bytes | None, tuple[Replacement, ...]]:
-    """The converted file, or None if nothing was replaced, and what was. Raises Fault with the record's number."""
-    session = WmfSession(metafile, options, texts)
-    step = _step_of_text if options.text_only else _step
-    for number, data in enumerate(metafile.records):
-        session.begin(number, data)
-        try:
-            step(session)
-        except Fault as fault:
-            raise Fault(fault.name, fault.detail, number) from fault
-    if not session.output.is_changed:
-        return None, ()
-    return _file(session), tuple(session.output.replacements)
-
-
-def _step(session: WmfSession) -> None:
-    """Takes over, or replaces, the record at hand."""
-    number = WMF.layout.number(session.data)
-    if number in HANDLERS:
-        HANDLERS[number](session)
-    elif number in _UNSUPPORTED:
-        raise Fault(FaultName.Unsupported, session.kind_at_hand.name)
-    else:
-        session.keep()
-
-
-def _step_of_text(session: WmfSession) -> None:
-    """The same where only text is replaced: other records only change the state, whatever faults they have."""
-    if WMF.layout.number(session.data) in TEXT_KINDS:
-        _step(session)
-        return
-    output = session.output
-    session.output = Output()
-    try:
-        _step(session)
-    except Fault as fault:
-        if fault.name is FaultName.NoSavedState:
-            raise
-    finally:
-        session.output = output
-    session.keep()
-
-
-def _file(session: WmfSession) -> bytes:
-    """The headers with their counts and sizes ([MS-WMF] 2.3.2.2), and the records with marks."""
-    records = marked(Layout.WMF, session.output.entries)
-    head = bytearray(session.metafile.head)
-    at = len(head) - 18
-    words = (18 + sum(map(len, records))) // 2
-    objects = max(int.from_bytes(head[at + 10 : at + 12], "little"), session.slots.most)
-    largest = max(int.from_bytes(head[at + 12 : at + 16], "little"), max(map(len, records)) // 2)
-    head[at + 6 : at + 10] = words.to_bytes(4, "little")
-    head[at + 10 : at + 12] = objects.to_bytes(2, "little")
-    head[at + 12 : at + 16] = largest.to_bytes(4, "little")
-    return bytes(head) + b"".join(records)
+WMF_STEPS = Steps(HANDLERS, frozenset(_UNSUPPORTED), frozenset({0x0521, 0x0A32}))

@@ -20,6 +20,7 @@ from .text import TextLayer
 from .wmf_blocks import FineWindow, lines, polygons
 from .wmf_kinds import WMF
 
+_HEADER_SIZE = 18
 _BOX_AT = 6
 _PARTS_OF_PIXEL = 8
 _WIDEST = 0x7FFF
@@ -45,6 +46,22 @@ class WmfSession(Session):
     def write_point(self, name: str, point: Point) -> bytes:
         """A record of a point, which WMF writes with y first."""
         return self.write(name, point.y, point.x)
+
+    def move_record(self) -> bytes:
+        """The record that moves the position to where it is."""
+        return self.write_point("META_MOVETO", self.state.position)
+
+    def file(self, records: list[bytes]) -> bytes:
+        """The file of these records, with counts and sizes in its header ([MS-WMF] 2.3.2.2)."""
+        head = bytearray(self.metafile.head)
+        at = len(head) - _HEADER_SIZE
+        words = (_HEADER_SIZE + sum(map(len, records))) // 2
+        objects = max(int.from_bytes(head[at + 10 : at + 12], "little"), self.slots.most)
+        largest = max(int.from_bytes(head[at + 12 : at + 16], "little"), max(map(len, records)) // 2)
+        head[at + 6 : at + 10] = words.to_bytes(4, "little")
+        head[at + 10 : at + 12] = objects.to_bytes(2, "little")
+        head[at + 12 : at + 16] = largest.to_bytes(4, "little")
+        return bytes(head) + b"".join(records)
 
     def check_depth(self) -> None:
         """Raises Fault DepthLimit if a block can't save the state."""

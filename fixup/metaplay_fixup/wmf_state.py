@@ -181,7 +181,7 @@ def move(session: WmfSession) -> None:
     """META_MOVETO and META_LINETO, which both set the position; lines from it play as they are."""
     state = session.state
     if session.kind_at_hand.name == "META_LINETO" and state.output_position != state.position:
-        session.insert(session.write_point("META_MOVETO", state.position))
+        session.insert(session.move_record())
     state.position = state.output_position = session.fields.point()
     session.keep()
 

@@ -110,8 +110,3 @@ def _clip(session: WmfSession, window: FineWindow, box: Box | None) -> list[byte
     first = window.units(Point(box.left, box.top))
     last = window.units(Point(box.right, box.bottom))
     return [session.write("META_INTERSECTCLIPRECT", last.y, last.x, first.y, first.x)]
-
-
-def text_position(session: WmfSession) -> bytes:
-    """The record that moves the position to where text has moved it."""
-    return session.write_point("META_MOVETO", session.state.position)
