@@ -22,7 +22,10 @@ Contour = list[Point]
 
 @dataclass(frozen=True, slots=True)
 class Affine:
-    """X = (a x + c y + e) / denominator, Y = (b x + d y + f) / denominator. The denominator is above 0, and nothing divides all seven."""
+    """X = (a x + c y + e) / denominator, Y = (b x + d y + f) / denominator.
+
+    The denominator is above 0, and nothing divides all seven.
+    """
 
     a: int
     b: int

@@ -30,7 +30,10 @@ _DEFAULT_MASKS = {16: Masks(0x7C00, 0x03E0, 0x001F), 32: Masks(0xFF0000, 0xFF00,
 
 @dataclass(frozen=True, slots=True)
 class Dib:
-    """The header of a bitmap. `is_top_down` says that the top row is stored first; `colours` counts the entries of its table."""
+    """The header of a bitmap.
+
+    `is_top_down` says that the top row is stored first; `colours` counts the entries of its table.
+    """
 
     header_size: int
     width: int
@@ -61,7 +64,10 @@ def plays_as_stored(header: bytes, usage: int) -> bool:
 
 
 def read_dib(header: bytes) -> Dib:
-    """The header of a bitmap. Raises Fault ShortDib if it isn't all there, and BadDib for sides, depths or tables that no bitmap has."""
+    """The header of a bitmap.
+
+    Raises Fault ShortDib if it isn't all there, and BadDib for sides, depths or tables that no bitmap has.
+    """
     if len(header) < _CORE:
         raise Fault(FaultName.ShortDib)
     size = int.from_bytes(header[:4], "little")

@@ -33,7 +33,8 @@ def keyed(picture: Picture, colour: int) -> list[Layer]:
 def blended(picture: Picture, function: int, rule: AlphaRule) -> list[Layer]:
     """The layers of a picture with alpha (EMR_ALPHABLEND, [MS-EMF] 2.3.1.1); `function` is its BLENDFUNCTION.
 
-    Pixels that are fully drawn or not at all are masked. Raises Fault Alpha for others, unless the rule lays them on white.
+    Pixels that are fully drawn or not at all are masked. Raises Fault Alpha for others, unless the rule lays them on
+    white.
     """
     constant, has_alpha = function >> 16 & 0xFF, bool(function >> 24 & 1)
     alpha = picture.alpha if has_alpha else None

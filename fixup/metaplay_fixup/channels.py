@@ -18,7 +18,9 @@ class Masks(NamedTuple):
 
 
 def expanded(rows: bytes, depth: int, width: int, height: int) -> bytes:
-    """A byte for each pixel of padded rows of 1, 4 or 8 bits a pixel; the leftmost pixel of a byte has its highest bits."""
+    """A byte for each pixel of padded rows of 1, 4 or 8 bits a pixel; the leftmost pixel of a byte has its highest
+    bits.
+    """
     length = len(rows) // height
     if depth == 8:
         return b"".join(rows[length * row : length * row + width] for row in range(height))
@@ -34,7 +36,10 @@ def _parts(byte: int, depth: int) -> bytes:
 
 
 def channel_of(rows: bytes, depth: int, mask: int) -> bytes:
-    """A byte from 0 to 255 for each pixel of 16 or 32 bits: the bits under a mask. Raises Fault BadDib if they aren't next to each other."""
+    """A byte from 0 to 255 for each pixel of 16 or 32 bits: the bits under a mask.
+
+    Raises Fault BadDib if they aren't next to each other.
+    """
     count = len(rows) * 8 // depth
     if mask == 0:
         return bytes(count)

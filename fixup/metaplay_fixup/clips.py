@@ -82,8 +82,8 @@ def region_boxes(data: bytes) -> list[Box]:
 def clip_of_region(boxes: Sequence[Box]) -> Clip:
     """The clip that keeps a region: its bounds without the gaps.
 
-    The boxes must be in bands from top to bottom, as the standard's regions are, or it is Fault ClipShape. Raises Fault TooManyCuts if
-    there are more than 16 gaps.
+    The boxes must be in bands from top to bottom, as the standard's regions are, or it is Fault ClipShape. Raises
+    Fault TooManyCuts if there are more than 16 gaps.
     """
     if not boxes:
         return Clip(Box(0, 0, 0, 0))

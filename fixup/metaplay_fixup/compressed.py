@@ -11,7 +11,10 @@ from .pictures import Picture, joined
 
 
 def decoded_image(data: bytes, form: str, most_pixels: int) -> Picture:
-    """A picture that is a JPEG or PNG file, with its alpha. Raises Fault BadDib if it is none, or has more pixels than allowed."""
+    """A picture that is a JPEG or PNG file, with its alpha.
+
+    Raises Fault BadDib if it is none, or has more pixels than allowed.
+    """
     try:
         with Image.open(io.BytesIO(data), formats=[form]) as image:
             if image.width * image.height > most_pixels:
@@ -42,7 +45,10 @@ class _Cursor:
 
 
 def decoded_runs(data: bytes, width: int, height: int, is_nibbles: bool) -> bytes:
-    """A byte for each pixel, rows as stored. Pixels that no run covers are 0; decoding ends at the end mark, or where data ends."""
+    """A byte for each pixel, rows as stored.
+
+    Pixels that no run covers are 0; decoding ends at the end mark, or where data ends.
+    """
     cursor = _Cursor(width, height)
     at = 0
     while at + 1 < len(data) and cursor.row < height:

@@ -26,7 +26,10 @@ def _length_above(vector: Point) -> int:
 
 
 def _chords(numerator: int, denominator: int, least: int) -> int:
-    """A number of chords from the ratio that its square must reach. Raises Fault OffPlane if it is out of all proportion."""
+    """A number of chords from the ratio that its square must reach.
+
+    Raises Fault OffPlane if it is out of all proportion.
+    """
     count = max(least, _root_above(numerator, denominator))
     if count > _MOST_CHORDS:
         raise Fault(FaultName.OffPlane, "a curve")
@@ -44,8 +47,8 @@ class Cubic(NamedTuple):
     def chords(self, tolerance: int) -> int:
         """How many chords of equal steps stay within the tolerance, which is above 0.
 
-        With n chords no point of the curve is farther from its chord than 3 M / (4 n^2), where M is the longer of the two second
-        differences of the four points.
+        With n chords no point of the curve is farther from its chord than 3 M / (4 n^2), where M is the longer of the
+        two second differences of the four points.
         """
         bends = [_second_difference(*self[:3]), _second_difference(*self[1:])]
         longest = max(map(_length_above, bends))
@@ -128,8 +131,9 @@ class Oval(NamedTuple):
     def steps(self, tolerance: int) -> int:
         """How many chords a quarter needs to stay within the tolerance, which is above 0.
 
-        The ends of chords are those whose half angle has a tangent of k / n. So a chord's angle is at most 2 / n, and its distance from
-        the circle at most 1 / (2 n^2) of the radius. The image's longest radius is the greater singular value of its two vectors.
+        The ends of chords are those whose half angle has a tangent of k / n. So a chord's angle is at most 2 / n, and
+        its distance from the circle at most 1 / (2 n^2) of the radius. The image's longest radius is the greater
+        singular value of its two vectors.
         """
         squares = sum(number**2 for number in (*self.across, *self.down))
         area = self.across.x * self.down.y - self.across.y * self.down.x

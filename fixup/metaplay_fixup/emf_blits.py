@@ -20,7 +20,9 @@ _BITMAP_AT = 80
 
 @dataclass(frozen=True, slots=True)
 class Blit:
-    """A blit as its record has it: the box and the source as corner and extent, the operation, and the bitmap's two parts."""
+    """A blit as its record has it: the box and the source as corner and extent, the operation, and the bitmap's two
+    parts.
+    """
 
     corner: Point
     extent: Point

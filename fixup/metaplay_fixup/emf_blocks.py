@@ -15,7 +15,8 @@ from .records import Fields
 from .shapes import bounds, check_count, without_repeats
 from .text import Box
 
-# The print profile divides a unit of the frame into at most 4,096 parts, and the longer side of the frame into at most 2^20.
+# The print profile divides a unit of the frame into at most 4,096 parts, and the longer side of the frame into at most
+# 2^20.
 _MOST_PARTS = 4096
 _MOST_PARTS_OF_SIDE = 1 << 20
 # A coordinate of the plane is at most so many parts from the frame's corner.
@@ -31,7 +32,8 @@ _PARTS_OF_PIXEL = 8
 class Grid:
     """How finely blocks count. A device unit has `parts` parts in blocks, and `plane_parts` in the print profile.
 
-    `corner` is the frame's corner in device units; `tolerance` is how far chords may be from a curve, in fixed device units.
+    `corner` is the frame's corner in device units; `tolerance` is how far chords may be from a curve, in fixed device
+    units.
     """
 
     parts: int
@@ -41,7 +43,10 @@ class Grid:
 
     @staticmethod
     def of_header(header: Fields, bound: int) -> Grid:
-        """The grid for a file's header and the longer side of the largest surface, in pixels. Raises Fault NoFrame as the checker."""
+        """The grid for a file's header and the longer side of the largest surface, in pixels.
+
+        Raises Fault NoFrame as the checker.
+        """
         left, top, right, bottom = header.several("bounds_left", "bounds_top", "bounds_right", "bounds_bottom")
         longer = max(1, right - left + 1, bottom - top + 1)
         if longer > 1 << 28:
@@ -56,7 +61,10 @@ class Grid:
         return Grid(parts, plane_parts, Point(left, top), tolerance)
 
     def units(self, point: Point, origin: Point) -> Point:
-        """A fixed device point in parts, counted from an origin in device units. Raises Fault OffPlane if it is too far out."""
+        """A fixed device point in parts, counted from an origin in device units.
+
+        Raises Fault OffPlane if it is too far out.
+        """
         reach = _PLANE << FRACTION_BITS
         off_x, off_y = (place - (side << FRACTION_BITS) for place, side in zip(point, self.corner))
         if max(abs(off_x), abs(off_y)) * self.plane_parts > reach:
@@ -65,7 +73,9 @@ class Grid:
         return Point(rounded_quotient(x, ONE), rounded_quotient(y, ONE))
 
     def clip_corner(self, point: Point) -> Point:
-        """A corner of a clip in parts, counted from the frame's corner; one far outside of the frame is moved nearer."""
+        """A corner of a clip in parts, counted from the frame's corner; one far outside of the frame is moved
+        nearer.
+        """
         x, y = ((place - (side << FRACTION_BITS)) * self.parts for place, side in zip(point, self.corner))
         return Point(_within(rounded_quotient(x, ONE)), _within(rounded_quotient(y, ONE)))
 
@@ -80,7 +90,9 @@ class Grid:
         ]
 
     def clip_records(self, name: str, box: Box) -> bytes:
-        """A record that keeps or cuts out a box of fixed device units, under the page map whose origin is the frame's corner."""
+        """A record that keeps or cuts out a box of fixed device units, under the page map whose origin is the
+        frame's corner.
+        """
         corners = (self.clip_corner(Point(box.left, box.top)), self.clip_corner(Point(box.right, box.bottom)))
         return EMF.named(name).write(*corners[0], *corners[1])
 

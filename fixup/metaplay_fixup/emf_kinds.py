@@ -1,4 +1,7 @@
-"""The records of EMF ([MS-EMF] 2.1.1, 2.3), as far as fields are read or written. Kinds without fields are there for their names."""
+"""The records of EMF ([MS-EMF] 2.1.1, 2.3), as far as fields are read or written.
+
+Kinds without fields are there for their names.
+"""
 
 from .records import Layout, Table
 
@@ -13,12 +16,19 @@ _SOURCE = f"source_x:i source_y:i {_TRANSFORM} source_background:I usage:I {_PAR
 _SOURCE_SIZE = "source_width:i source_height:i"
 _TEXT = f"{_BOUNDS} graphics_mode:I x_scale:I y_scale:I x:i y:i count:I string_at:I options:I {_BOX} distances_at:I"
 _ARC = f"{_BOX} start_x:i start_y:i end_x:i end_y:i"
+_FRAME = "frame_left:i frame_top:i frame_right:i frame_bottom:i"
+_COUNTS = "signature:I version:I bytes:I records:I handles:H reserved:H"
+_DESCRIPTION = "description_size:I description_at:I palette_entries:I"
+_DEVICE = f"{_DESCRIPTION} device_width:i device_height:i millimetres_width:i millimetres_height:i"
+_STRETCHED = "usage:I operation:I width:i height:i"
+_FONT_SIZES = "height:i width:i escapement:i orientation:i weight:i"
+_FONT_FLAGS = "italic:B underline:B strike_out:B charset:B out_precision:B clip_precision:B quality:B pitch:B"
 _LISTS = f"{_BOUNDS} list_count:I total:I"
 
 EMF = Table(
     Layout.EMF,
     f"""
-    1 EMR_HEADER {_BOUNDS} frame_left:i frame_top:i frame_right:i frame_bottom:i signature:I version:I bytes:I records:I handles:H reserved:H description_size:I description_at:I palette_entries:I device_width:i device_height:i millimetres_width:i millimetres_height:i
+    1 EMR_HEADER {_BOUNDS} {_FRAME} {_COUNTS} {_DEVICE}
     2 EMR_POLYBEZIER {_BOUNDS} count:I points:i
     3 EMR_POLYGON {_BOUNDS} count:I points:i
     4 EMR_POLYLINE {_BOUNDS} count:I points:i
@@ -97,8 +107,8 @@ EMF = Table(
     78 EMR_MASKBLT
     79 EMR_PLGBLT
     80 EMR_SETDIBITSTODEVICE
-    81 EMR_STRETCHDIBITS {_BOUNDS} x:i y:i source_x:i source_y:i {_SOURCE_SIZE} {_PARTS} usage:I operation:I width:i height:i
-    82 EMR_EXTCREATEFONTINDIRECTW index:I height:i width:i escapement:i orientation:i weight:i italic:B underline:B strike_out:B charset:B out_precision:B clip_precision:B quality:B pitch:B
+    81 EMR_STRETCHDIBITS {_BOUNDS} x:i y:i source_x:i source_y:i {_SOURCE_SIZE} {_PARTS} {_STRETCHED}
+    82 EMR_EXTCREATEFONTINDIRECTW index:I {_FONT_SIZES} {_FONT_FLAGS}
     83 EMR_EXTTEXTOUTA {_TEXT}
     84 EMR_EXTTEXTOUTW {_TEXT}
     85 EMR_POLYBEZIER16 {_BOUNDS} count:I points:h

@@ -64,7 +64,9 @@ def create_long_pen(session: EmfSession) -> None:
 
 
 def _with_colour(session: EmfSession, is_null: bool) -> bytes:
-    """Keeps the record at hand, or replaces its colour if that is one of the palette; gives what stands in the output."""
+    """Keeps the record at hand, or replaces its colour if that is one of the palette; gives what stands in the
+    output.
+    """
     if is_null:
         session.keep()
     else:
@@ -95,7 +97,10 @@ def create_bitmap_brush(session: EmfSession) -> None:
 
 
 def bitmap_parts(session: EmfSession) -> tuple[bytes, bytes]:
-    """The header with its table, and the rows, of the record's bitmap. Raises Fault BadParams if they go past the record's end."""
+    """The header with its table, and the rows, of the record's bitmap.
+
+    Raises Fault BadParams if they go past the record's end.
+    """
     header_at, header_size, bits_at, bits_size = session.fields.several(
         "header_at", "header_size", "bits_at", "bits_size"
     )

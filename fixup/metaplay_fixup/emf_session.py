@@ -68,7 +68,9 @@ class EmfSession(Session):
         return header + b"".join(records[1:])
 
     def keep_in_path(self) -> None:
-        """Takes over a record that belongs to the path, as long as the path is plain; otherwise the record is left out."""
+        """Takes over a record that belongs to the path, as long as the path is plain; otherwise the record is left
+        out.
+        """
         path = self.path
         if path is None or path.is_plain:
             entry = self.keep()
@@ -127,7 +129,10 @@ class EmfSession(Session):
             raise Fault(FaultName.DepthLimit)
 
     def map_records(self, origin: Point) -> list[bytes]:
-        """Records that set a block's page map. Where only text is replaced, the file's world stays and must be set aside too."""
+        """Records that set a block's page map.
+
+        Where only text is replaced, the file's world stays and must be set aside too.
+        """
         records = self.grid.map_records(origin)
         if self.options.text_only and not self.state.is_plain:
             one = 0x3F800000
@@ -164,7 +169,8 @@ class EmfSession(Session):
         return kind.changed(data, index=index, width=width, header_at=0, header_size=0, bits_at=0, bits_size=0)
 
     def draw(self, figures: Sequence[Figure], action: Action) -> None:
-        """Replaces the record by a block that fills and strokes figures if they are closed, or strokes them if they aren't.
+        """Replaces the record by a block that fills and strokes figures if they are closed, or strokes them if they
+        aren't.
 
         All figures are closed, or none is.
         """

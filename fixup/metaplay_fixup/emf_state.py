@@ -33,7 +33,10 @@ def viewport_extent(session: EmfSession) -> None:
 
 
 def _extent(session: EmfSession, name: str, extent: Point) -> None:
-    """Sets an extent. In the metric modes it does nothing, so the record is left out: the mode has become an anisotropic one."""
+    """Sets an extent.
+
+    In the metric modes it does nothing, so the record is left out: the mode has become an anisotropic one.
+    """
     mode = session.state.page.mode
     if mode not in (TEXT_MODE, ISOTROPIC, ANISOTROPIC):
         session.replace(Action.EXTENT)
@@ -93,7 +96,9 @@ def scaled_side(side: int, numerator: int, denominator: int) -> int:
 
 
 def map_mode(session: EmfSession) -> None:
-    """EMR_SETMAPMODE: a metric mode becomes an anisotropic one with the extents of the header's device ([MS-EMF] 2.2.9)."""
+    """EMR_SETMAPMODE: a metric mode becomes an anisotropic one with the extents of the header's device ([MS-EMF]
+    2.2.9).
+    """
     mode = session.fields["mode"]
     if mode in (TEXT_MODE, ISOTROPIC, ANISOTROPIC):
         session.state.set_page(session.state.page.in_mode(mode))
@@ -113,7 +118,10 @@ def map_mode(session: EmfSession) -> None:
 
 
 def _metric_extents(session: EmfSession, mode: int) -> tuple[Point, Point]:
-    """Window and viewport of a metric mode: y points upwards. Raises Fault MetricMode if the header has no usable device."""
+    """Window and viewport of a metric mode: y points upwards.
+
+    Raises Fault MetricMode if the header has no usable device.
+    """
     names = ("device_width", "device_height", "millimetres_width", "millimetres_height")
     width, height, wide, high = session.header.several(*names)
     if not all(1 <= side <= _LARGEST_DEVICE for side in (width, height, wide, high)):

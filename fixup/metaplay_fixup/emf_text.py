@@ -148,7 +148,9 @@ def _polygons(session: EmfSession, fill: Fill, origin: Point) -> list[bytes]:
 
 
 def _block(session: EmfSession, text: TextFills, origin: Point) -> list[bytes]:
-    """The block of a text: the map, the clip, the settings, and each fill with its brush; the brush goes after the block."""
+    """The block of a text: the map, the clip, the settings, and each fill with its brush; the brush goes after the
+    block.
+    """
     session.check_depth()
     index, write = session.use_extra(), session.write
     records = [write("EMR_SAVEDC"), *session.map_records(origin)]

@@ -1,8 +1,9 @@
 """Comments around each replaced place, by which a reader of both files finds what was replaced.
 
-A mark is a comment of 16 bytes: the signature `MPFX`, the kind of the mark, the number of the first record of the original that was
-replaced, and how many were. Numbers are u32. Records that were only inserted have a count of 0 and stand before that record. The mark
-is an EMR_COMMENT ([MS-EMF] 2.3.3.1), or a META_ESCAPE with the function MFCOMMENT ([MS-WMF] 2.3.6.1, 2.1.1.17).
+A mark is a comment of 16 bytes: the signature `MPFX`, the kind of the mark, the number of the first record of the
+original that was replaced, and how many were. Numbers are u32. Records that were only inserted have a count of 0 and
+stand before that record. The mark is an EMR_COMMENT ([MS-EMF] 2.3.3.1), or a META_ESCAPE with the function MFCOMMENT
+([MS-WMF] 2.3.6.1, 2.1.1.17).
 """
 
 from __future__ import annotations

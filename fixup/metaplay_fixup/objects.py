@@ -12,7 +12,10 @@ from .text import Colour, LogicalFont
 
 @dataclass(frozen=True, slots=True)
 class Pen:
-    """A pen. `width` is in page units, 0 for the thinnest line. `data` is the record that makes it, or None for a stock pen."""
+    """A pen.
+
+    `width` is in page units, 0 for the thinnest line. `data` is the record that makes it, or None for a stock pen.
+    """
 
     width: int
     is_null: bool
@@ -78,8 +81,8 @@ def stock_object(index: int) -> Object | None:
 def read_colour(reference: int, palette: Palette) -> Colour:
     """The colour of a COLORREF ([MS-WMF] 2.2.2.8), whose highest byte is its type.
 
-    Types 0 and 2 have red, green and blue; type 1 is an index into the palette. Raises Fault PaletteColour for other types, and for an
-    index that the palette doesn't have.
+    Types 0 and 2 have red, green and blue; type 1 is an index into the palette. Raises Fault PaletteColour for other
+    types, and for an index that the palette doesn't have.
     """
     kind = reference >> 24
     if kind in (0, 2):

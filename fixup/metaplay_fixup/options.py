@@ -18,8 +18,8 @@ LARGEST_BOUND = 8192
 class Options:
     """Choices for a conversion.
 
-    `bound` is the longer side of the largest surface that matters, in pixels, from 1 to 8,192. With `text_only` all records but those of
-    text stay as they are.
+    `bound` is the longer side of the largest surface that matters, in pixels, from 1 to 8,192. With `text_only` all
+    records but those of text stay as they are.
     """
 
     bound: int = LARGEST_BOUND

@@ -53,7 +53,9 @@ class Source(Enum):
 
 @dataclass(slots=True)
 class Entry:
-    """Records of the output that stand in the place of one record of the original, or before it if they were inserted."""
+    """Records of the output that stand in the place of one record of the original, or before it if they were
+    inserted.
+    """
 
     number: int
     source: Source

@@ -15,8 +15,8 @@ from .faults import Fault, FaultName
 class Path:
     """A path that is open until its EMR_ENDPATH, and then finished.
 
-    It is plain as long as the records in it stay as they are; `entries` are theirs. `is_joined` says whether lines from the position
-    continue the newest figure.
+    It is plain as long as the records in it stay as they are; `entries` are theirs. `is_joined` says whether lines
+    from the position continue the newest figure.
     """
 
     is_open: bool = True
@@ -34,7 +34,10 @@ class Path:
             self.is_joined = not is_closed
 
     def continue_from(self, position: Point, points: Sequence[Point]) -> None:
-        """Adds points to the figure that can be continued, or to a new one at the position. Raises Fault TooManyEdges."""
+        """Adds points to the figure that can be continued, or to a new one at the position.
+
+        Raises Fault TooManyEdges.
+        """
         if points:
             if not self.is_joined:
                 self.add([position], False)

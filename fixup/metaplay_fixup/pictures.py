@@ -1,4 +1,7 @@
-"""Pictures of 24 bits: cut, masked and stored. Pixels are rows from the top, each pixel a byte of blue, green and red."""
+"""Pictures of 24 bits: cut, masked and stored.
+
+Pixels are rows from the top, each pixel a byte of blue, green and red.
+"""
 
 from __future__ import annotations
 

@@ -29,7 +29,11 @@ class Form(Enum):
 
 @dataclass(frozen=True, slots=True)
 class Metafile:
-    """A file. `head` is what precedes the first record: of a WMF its headers, of an EMF nothing. `records` ends with the end record."""
+    """A file.
+
+    `head` is what precedes the first record: of a WMF its headers, of an EMF nothing. `records` ends with the end
+    record.
+    """
 
     form: Form
     head: bytes

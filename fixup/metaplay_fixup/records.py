@@ -1,7 +1,8 @@
 """How records of both formats are laid out: one table entry for each kind, by which records are read and written.
 
-A record of WMF begins with its size in words and its function ([MS-WMF] 2.3), one of EMF with its type and its size in bytes ([MS-EMF]
-2.3). Fixed fields follow one another without gaps; then come lists of points, or bytes that a module reads for itself.
+A record of WMF begins with its size in words and its function ([MS-WMF] 2.3), one of EMF with its type and its size in
+bytes ([MS-EMF] 2.3). Fixed fields follow one another without gaps; then come lists of points, or bytes that a module
+reads for itself.
 """
 
 from __future__ import annotations
@@ -89,7 +90,10 @@ class Kind:
         return Fields(self.places, self.fixed.unpack_from(data, self.layout.head_size))
 
     def write(self, *numbers: int, rest: bytes = b"") -> bytes:
-        """A record of the numbers of all fixed fields and the bytes after them. Raises Fault OffPlane if a number doesn't fit its field."""
+        """A record of the numbers of all fixed fields and the bytes after them.
+
+        Raises Fault OffPlane if a number doesn't fit its field.
+        """
         try:
             body = self.fixed.pack(*numbers)
         except struct.error as error:
@@ -102,7 +106,10 @@ class Kind:
         return self.write(*(numbers.get(name, fields[name]) for name in self.places), rest=data[self.end :])
 
     def point_lists(self, data: bytes) -> list[list[Point]]:
-        """The lists of points after the fixed fields. Raises Fault BadParams if counts don't add up or points are missing."""
+        """The lists of points after the fixed fields.
+
+        Raises Fault BadParams if counts don't add up or points are missing.
+        """
         fields = self.read(data)
         if self.points_in is PointsIn.LIST:
             return [_points(data, self.end, fields["count"], self.point_code)]
@@ -116,7 +123,10 @@ class Kind:
 
 
 def numbers_at(data: bytes, at: int, count: int, code: str) -> tuple[int, ...]:
-    """So many numbers of one type (a letter of the module `struct`) from a place on. Raises Fault BadParams if they aren't there."""
+    """So many numbers of one type (a letter of the module `struct`) from a place on.
+
+    Raises Fault BadParams if they aren't there.
+    """
     if at < 0 or count < 0 or at + struct.calcsize(code) * count > len(data):
         raise Fault(FaultName.BadParams, "a list goes past the record's end")
     return struct.unpack_from(f"<{count}{code}", data, at)

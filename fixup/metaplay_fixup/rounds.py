@@ -48,7 +48,10 @@ class PageBox(NamedTuple):
         return direction_of(Point((2 * target.x - centre.x) * sides.y, (2 * target.y - centre.y) * sides.x))
 
     def arc(self, start: Point, end: Point, is_clockwise: bool, tolerance: int) -> list[Point]:
-        """The arc from one ray to another, both through points of the page. The direction is as the device shows it, y downwards."""
+        """The arc from one ray to another, both through points of the page.
+
+        The direction is as the device shows it, y downwards.
+        """
         first, last = self.direction(start), self.direction(end)
         grows_clockwise = self.device.determinant() > 0
         if is_clockwise == grows_clockwise:

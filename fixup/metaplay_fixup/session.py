@@ -15,7 +15,10 @@ from .text import Box, Note, TextLayer
 
 
 class Session:
-    """A conversion that goes on from record to record. `kind` is the kind of the record at hand, whose bytes are `data`."""
+    """A conversion that goes on from record to record.
+
+    `kind` is the kind of the record at hand, whose bytes are `data`.
+    """
 
     def __init__(self, metafile: Metafile, options: Options, texts: TextLayer | None, table: Table) -> None:
         self.metafile = metafile

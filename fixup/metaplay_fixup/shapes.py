@@ -21,7 +21,9 @@ class Figure(NamedTuple):
 
 
 def without_repeats(points: Sequence[Point], is_closed: bool) -> list[Point]:
-    """The points without those that equal the one before; of a closed list also without a last one that equals the first."""
+    """The points without those that equal the one before; of a closed list also without a last one that equals the
+    first.
+    """
     kept = [point for place, point in enumerate(points) if place == 0 or point != points[place - 1]]
     while is_closed and len(kept) > 1 and kept[-1] == kept[0]:
         kept.pop()

@@ -19,7 +19,10 @@ class Ratio(NamedTuple):
 
 
 def single_of(word: int) -> Ratio:
-    """The number whose 32 bits are given. Raises Fault BadValue if it isn't finite or its absolute value is 2^40 or more."""
+    """The number whose 32 bits are given.
+
+    Raises Fault BadValue if it isn't finite or its absolute value is 2^40 or more.
+    """
     exponent = word >> 23 & 0xFF
     mantissa = word & 0x7FFFFF
     if exponent == 0xFF:
@@ -36,8 +39,8 @@ def single_of(word: int) -> Ratio:
 def nearest_single(value: Ratio) -> Ratio:
     """The single nearest to a ratio whose denominator is a power of two; a half goes to the even one.
 
-    A product of transforms is rounded so, since the transform of a device context is kept in singles. Raises Fault BadValue if it is 2^40
-    or more.
+    A product of transforms is rounded so, since the transform of a device context is kept in singles. Raises Fault
+    BadValue if it is 2^40 or more.
     """
     size = abs(value.numerator)
     scale = value.denominator.bit_length() - 1

@@ -11,7 +11,9 @@ from .pictures import Picture
 
 
 class Side(NamedTuple):
-    """One axis of a blit: from `near` to `far` on the device, source from `start` over `length` pixels, none of them negative."""
+    """One axis of a blit: from `near` to `far` on the device, source from `start` over `length` pixels, none of
+    them negative.
+    """
 
     near: int
     far: int

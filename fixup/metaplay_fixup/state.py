@@ -22,7 +22,9 @@ _ORIGIN, _UNITS = Point(0, 0), Point(1, 1)
 
 @dataclass(frozen=True, slots=True)
 class PageMap:
-    """Where the page lies on the device: x' = (x - window origin) * viewport extent / window extent + viewport origin."""
+    """Where the page lies on the device: x' = (x - window origin) * viewport extent / window extent + viewport
+    origin.
+    """
 
     mode: int = TEXT_MODE
     window_origin: Point = _ORIGIN
@@ -50,9 +52,10 @@ class PageMap:
 class State:
     """A state. All values are immutable, so a saved state is a copy of the references.
 
-    `output_position` is the position that the converted file's player has, or None if it isn't known. `clip` is what was clipped since the
-    clip was removed last, and `meta_clip` stays when it is removed. The last three are of WMF: what its records scale the viewport by that
-    they haven't set, the window that they set, and whether they set a viewport.
+    `output_position` is the position that the converted file's player has, or None if it isn't known. `clip` is what
+    was clipped since the clip was removed last, and `meta_clip` stays when it is removed. The last three are of WMF:
+    what its records scale the viewport by that they haven't set, the window that they set, and whether they set a
+    viewport.
     """
 
     page: PageMap = field(default_factory=PageMap)
@@ -131,7 +134,9 @@ class State:
 
 
 def scaled_width(width: int, parts: int, device: Affine) -> int:
-    """A pen's width in parts of a device unit, at least 1: that of the mean scale, which is the root of the determinant."""
+    """A pen's width in parts of a device unit, at least 1: that of the mean scale, which is the root of the
+    determinant.
+    """
     square = (2 * width * parts) ** 2 * abs(device.determinant()) // device.denominator**2
     return max(1, (isqrt(square) + 1) // 2)
 

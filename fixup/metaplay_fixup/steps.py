@@ -17,7 +17,8 @@ SessionType = TypeVar("SessionType", bound=Session)
 class Steps(Generic[SessionType]):
     """The handlers of a format's records by their numbers.
 
-    Kinds in `unsupported` are neither played by the checker nor replaced. Kinds in `texts` are text. All others are kept.
+    Kinds in `unsupported` are neither played by the checker nor replaced. Kinds in `texts` are text. All others are
+    kept.
     """
 
     handlers: Mapping[int, Callable[[SessionType], None]]
@@ -64,7 +65,10 @@ class Steps(Generic[SessionType]):
         session.keep()
 
     def _text_alone(self, session: SessionType, handler: Callable[[SessionType], None]) -> None:
-        """Replaces text. If it moves the position, that is set anew at once, since lines that use it stay as they are."""
+        """Replaces text.
+
+        If it moves the position, that is set anew at once, since lines that use it stay as they are.
+        """
         if session.is_in_path:
             raise Fault(FaultName.PathState, "text in a path")
         before = session.state.position

@@ -53,7 +53,10 @@ class TextBlock:
 
 
 def ink(laid: LaidText, colour: Colour) -> list[Fill]:
-    """The fills of a text's glyphs, underline and strike-out. Each line is a fill of its own: in winding mode it could cut holes."""
+    """The fills of a text's glyphs, underline and strike-out.
+
+    Each line is a fill of its own: in winding mode it could cut holes.
+    """
     lists = [laid.glyphs, *([line] for line in laid.lines)]
     return [Fill(colour, contours) for contours in lists if contours]
 

@@ -1,4 +1,6 @@
-"""How a WMF scales a viewport that it hasn't set: the viewport is that of the program that shows the file, so the window changes instead."""
+"""How a WMF scales a viewport that it hasn't set: the viewport is that of the program that shows the file, so the
+window changes instead.
+"""
 
 from __future__ import annotations
 
@@ -29,7 +31,10 @@ class ViewportScale:
         return ViewportScale(*x, *y)
 
     def window(self, asked: Point) -> Point:
-        """The window that stands for a window and this scale. Raises Fault ZeroExtent or OffPlane if it can't be written."""
+        """The window that stands for a window and this scale.
+
+        Raises Fault ZeroExtent or OffPlane if it can't be written.
+        """
         x = rounded_quotient(asked.x * self.x_denominator, self.x_numerator)
         y = rounded_quotient(asked.y * self.y_denominator, self.y_numerator)
         if 0 in (x, y):

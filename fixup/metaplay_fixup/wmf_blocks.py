@@ -1,7 +1,7 @@
 """Blocks of WMF: drawings between META_SAVEDC and META_RESTOREDC, in a window that is finer than the file's.
 
-The viewport stays, since a program that shows the file has set it. Coordinates have 16 bits, so the window's origin moves near the
-drawing, and its extent grows by a whole factor that still fits.
+The viewport stays, since a program that shows the file has set it. Coordinates have 16 bits, so the window's origin
+moves near the drawing, and its extent grows by a whole factor that still fits.
 """
 
 from __future__ import annotations
@@ -24,7 +24,9 @@ _FINEST = 256
 
 @dataclass(frozen=True, slots=True)
 class FineWindow:
-    """A window of a block: `page` is the file's map, `base` the page units from which the block counts, `factors` its parts of one."""
+    """A window of a block: `page` is the file's map, `base` the page units from which the block counts, `factors`
+    its parts of one.
+    """
 
     page: PageMap
     base: Point

@@ -1,4 +1,7 @@
-"""The records of WMF ([MS-WMF] 2.1.1.1, 2.3), as far as fields are read or written. Kinds without fields are there for their names."""
+"""The records of WMF ([MS-WMF] 2.1.1.1, 2.3), as far as fields are read or written.
+
+Kinds without fields are there for their names.
+"""
 
 from .records import Layout, Table
 
@@ -7,6 +10,8 @@ _BOX = "bottom:h right:h top:h left:h"
 _COLOUR = "colour:I"
 _SCALES = "y_denominator:h y_numerator:h x_denominator:h x_numerator:h"
 _ARC = f"end_y:h end_x:h start_y:h start_x:h {_BOX}"
+_FONT_SIZES = "height:h width:h escapement:h orientation:h weight:h"
+_FONT_FLAGS = "italic:B underline:B strike_out:B charset:B out_precision:B clip_precision:B quality:B pitch:B"
 _CORNER = "height:h width:h y:h x:h"
 
 WMF = Table(
@@ -51,7 +56,7 @@ WMF = Table(
     0231 META_SETMAPPERFLAGS
     0234 META_SELECTPALETTE index:H
     02FA META_CREATEPENINDIRECT style:H width:h width_y:h {_COLOUR}
-    02FB META_CREATEFONTINDIRECT height:h width:h escapement:h orientation:h weight:h italic:B underline:B strike_out:B charset:B out_precision:B clip_precision:B quality:B pitch:B
+    02FB META_CREATEFONTINDIRECT {_FONT_SIZES} {_FONT_FLAGS}
     02FC META_CREATEBRUSHINDIRECT style:H {_COLOUR} hatch:H
     0324 META_POLYGON count:h points:h
     0325 META_POLYLINE count:h points:h

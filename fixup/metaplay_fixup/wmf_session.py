@@ -69,7 +69,9 @@ class WmfSession(Session):
             raise Fault(FaultName.DepthLimit)
 
     def draw(self, figure: Figure) -> None:
-        """Replaces the record by a block that fills and strokes a closed figure, or strokes an open one, with the file's pen."""
+        """Replaces the record by a block that fills and strokes a closed figure, or strokes an open one, with the
+        file's pen.
+        """
         self.check_depth()
         pen = self.state.pen
         is_wide = not pen.is_null and pen.width > 0 and pen.data is not None
@@ -93,7 +95,10 @@ class WmfSession(Session):
 
 
 def _first_map(metafile: Metafile) -> PageMap:
-    """The page map at the start: that of the placeable box, or of the first window extent. Raises Fault NoFrame if there is none."""
+    """The page map at the start: that of the placeable box, or of the first window extent.
+
+    Raises Fault NoFrame if there is none.
+    """
     if metafile.form is Form.PLACEABLE:
         left, top, right, bottom = numbers_at(metafile.head, _BOX_AT, 4, "h")
     else:

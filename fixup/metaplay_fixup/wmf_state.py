@@ -120,7 +120,9 @@ def scale_window(session: WmfSession) -> None:
 
 
 def scale_viewport(session: WmfSession) -> None:
-    """META_SCALEVIEWPORTEXT becomes META_SETVIEWPORTEXT, or a change of the window if the file hasn't set a viewport."""
+    """META_SCALEVIEWPORTEXT becomes META_SETVIEWPORTEXT, or a change of the window if the file hasn't set a
+    viewport.
+    """
     state = session.state
     if not session.is_scaled:
         session.replace(Action.EXTENT)
@@ -241,7 +243,9 @@ def create_brush(session: WmfSession) -> None:
 
 
 def _with_colour(session: WmfSession, is_unread: bool) -> bytes:
-    """Keeps the record at hand, or replaces its colour if that is one of the palette; gives what stands in the output."""
+    """Keeps the record at hand, or replaces its colour if that is one of the palette; gives what stands in the
+    output.
+    """
     if is_unread:
         session.keep()
     else:

@@ -77,7 +77,9 @@ def _replace_text(session: WmfSession, record: TextRecord) -> None:
 
 
 def _block(session: WmfSession, text_to_draw: TextFills) -> list[bytes]:
-    """The block of a text: the window, the clip, the settings, and each fill with its brush; pen and brush go after the block."""
+    """The block of a text: the window, the clip, the settings, and each fill with its brush; pen and brush go after
+    the block.
+    """
     session.check_depth()
     write = session.write
     window = FineWindow.around(session.state.page, text_to_draw.points, session.state.page.mode == ISOTROPIC)
