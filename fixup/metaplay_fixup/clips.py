@@ -135,17 +135,12 @@ def box_of_figure(points: Sequence[Point]) -> Box | None:
     if len(corners) != 4:
         return None
     box = fixed_bounds(corners)
-    is_box = all(
-        _is_side(corners[place].x, box.left, box.right) and _is_side(corners[place].y, box.top, box.bottom)
-        for place in range(4)
-    )
-    turns = [_is_near(corners[place - 1].x, corners[place].x) for place in range(4)]
-    return box if is_box and turns[0] == turns[2] != turns[1] == turns[3] else None
+    steps = [(corners[place - 1], corners[place]) for place in range(4)]
+    is_upright = [_is_near(one.x, other.x) for one, other in steps]
+    is_level = [_is_near(one.y, other.y) for one, other in steps]
+    alternates = is_upright[0] == is_upright[2] != is_upright[1] == is_upright[3]
+    return box if alternates and is_level == [not upright for upright in is_upright] else None
 
 
 def _is_near(one: int, other: int) -> bool:
     return abs(one - other) <= _ROUNDING
-
-
-def _is_side(number: int, least: int, greatest: int) -> bool:
-    return _is_near(number, least) or _is_near(number, greatest)

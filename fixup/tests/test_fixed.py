@@ -20,7 +20,17 @@ class Quotients(unittest.TestCase):
 
     def test_rounding(self) -> None:
         """Halves go up, also below 0 and with a negative denominator."""
-        rows = [(1, 2, 1), (-1, 2, 0), (-3, 2, -1), (3, 2, 2), (1, -2, 0), (-1, -2, 1), (7, 3, 2), (8, 3, 3), (-7, 3, -2)]
+        rows = [
+            (1, 2, 1),
+            (-1, 2, 0),
+            (-3, 2, -1),
+            (3, 2, 2),
+            (1, -2, 0),
+            (-1, -2, 1),
+            (7, 3, 2),
+            (8, 3, 3),
+            (-7, 3, -2),
+        ]
         for numerator, denominator, expected in rows:
             self.assertEqual(rounded_quotient(numerator, denominator), expected, (numerator, denominator))
 
@@ -75,7 +85,16 @@ class Singles(unittest.TestCase):
 
     def test_rounded(self) -> None:
         """A ratio is rounded as the packing of a double rounds it, halves to even."""
-        values = [1 + 2.0**-24, 1 + 3 * 2.0**-24, 1 + 2.0**-23, 0.1, 1 / 3, -1 - 2.0**-24 - 2.0**-40, 2.0**-149 * 1.5, 0.0]
+        values = [
+            1 + 2.0**-24,
+            1 + 3 * 2.0**-24,
+            1 + 2.0**-23,
+            0.1,
+            1 / 3,
+            -1 - 2.0**-24 - 2.0**-40,
+            2.0**-149 * 1.5,
+            0.0,
+        ]
         for value in values:
             exact = struct.unpack("<f", struct.pack("<f", value))[0]
             ratio = nearest_single(Ratio(*value.as_integer_ratio()))

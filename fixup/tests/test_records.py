@@ -38,7 +38,10 @@ class Tables(unittest.TestCase):
             ("EMR_STRETCHDIBITS", {"usage": 64, "operation": 68, "width": 72, "height": 76}),
             ("EMR_CREATEDIBPATTERNBRUSHPT", {"index": 8, "usage": 12, "header_at": 16, "bits_size": 28}),
             ("EMR_EXTCREATEPEN", {"header_at": 12, "style": 28, "width": 32, "brush_style": 36, "colour": 40}),
-            ("EMR_EXTTEXTOUTW", {"graphics_mode": 24, "x": 36, "count": 44, "string_at": 48, "options": 52, "left": 56}),
+            (
+                "EMR_EXTTEXTOUTW",
+                {"graphics_mode": 24, "x": 36, "count": 44, "string_at": 48, "options": 52, "left": 56},
+            ),
             ("EMR_EXTTEXTOUTA", {"distances_at": 72}),
             ("EMR_SMALLTEXTOUT", {"x": 8, "count": 16, "options": 20, "graphics_mode": 24}),
             ("EMR_ARC", {"left": 8, "start_x": 24, "end_y": 36}),
