@@ -32,7 +32,7 @@ class Regions(unittest.TestCase):
 
     def test_shapes(self) -> None:
         """A box; nothing; two boxes beside each other; a ring; an L; a gap between bands."""
-        rows = [
+        rows: list[tuple[list[Box], Clip]] = [
             ([Box(1, 2, 3, 4)], Clip(Box(1, 2, 3, 4))),
             ([], Clip(Box(0, 0, 0, 0))),
             ([Box(0, 0, 2, 9), Box(5, 0, 9, 9)], Clip(Box(0, 0, 9, 9), (Box(2, 0, 5, 9),))),
