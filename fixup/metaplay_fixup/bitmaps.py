@@ -44,6 +44,11 @@ class Dib:
     colours: int
 
     @property
+    def is_file(self) -> bool:
+        """Whether the rows are a JPEG or PNG file, which has a size of its own."""
+        return self.compression in (_JPEG, _PNG)
+
+    @property
     def row_size(self) -> int:
         """The bytes of a row that isn't compressed."""
         return (self.width * self.depth + 31) // 32 * 4
@@ -80,8 +85,7 @@ def read_dib(header: bytes) -> Dib:
         raise Fault(FaultName.ShortDib)
     else:
         dib = _info(header, size)
-    is_coded = dib.compression in (_JPEG, _PNG)
-    if not is_coded and dib.depth not in _DEPTHS:
+    if not dib.is_file and dib.depth not in _DEPTHS:
         raise Fault(FaultName.BadDib, f"{dib.depth} bits")
     if not (0 < dib.width <= LONGEST_SIDE and 0 < dib.height <= LONGEST_SIDE) or dib.width * dib.height > _MOST_PIXELS:
         raise Fault(FaultName.BadDib, f"{dib.width} by {dib.height} pixels")
@@ -104,7 +108,7 @@ def read_picture(header: bytes, bits: bytes, usage: int, palette: Palette) -> Pi
     Raises Fault BadDib, ShortDib, CompressedDib or PaletteColour for bitmaps that can't be read.
     """
     dib = read_dib(header)
-    if dib.compression in (_JPEG, _PNG):
+    if dib.is_file:
         return decoded_image(bits, "JPEG" if dib.compression == _JPEG else "PNG", _MOST_PIXELS)
     if dib.compression not in (_RGB, _RLE8, _RLE4, _FIELDS):
         raise Fault(FaultName.CompressedDib, f"compression {dib.compression}")

@@ -58,6 +58,5 @@ def chord_tolerance(data: bytes, options: Options) -> int:
     files whose headers can't be read.
     """
     metafile = read_metafile(data)
-    if metafile.form is Form.EMF:
-        return EmfSession(metafile, options, None).grid.tolerance
-    return WmfSession(metafile, options, None).tolerance
+    kind = EmfSession if metafile.form is Form.EMF else WmfSession
+    return kind(metafile, options, None).budget.tolerance

@@ -7,11 +7,12 @@ from math import isqrt
 from typing import NamedTuple
 
 from .affine import Point
+from .budgets import Budget
 from .faults import Fault, FaultName
 from .fixed import rounded_quotient
 
 # More chords than any curve needs whose points are on the plane.
-_MOST_CHORDS = 1 << 16
+_MOST_CHORDS = 1 << 13
 
 
 def _root_above(numerator: int, denominator: int) -> int:
@@ -67,15 +68,17 @@ def _second_difference(one: Point, two: Point, three: Point) -> Point:
     return Point(one.x - 2 * two.x + three.x, one.y - 2 * two.y + three.y)
 
 
-def flattened(start: Point, rest: Sequence[Point], tolerance: int) -> list[Point]:
+def flattened(start: Point, rest: Sequence[Point], budget: Budget) -> list[Point]:
     """The chords' ends of Bezier curves that follow one another: without the start, with each curve's end.
 
-    `rest` has three points for each curve; points beyond the last whole three are left out. The tolerance is above 0.
+    `rest` has three points for each curve; points beyond the last whole three are left out. Raises Fault OffPlane or
+    TooManyEdges if a curve, or all of the file, needs too many chords.
     """
     ends: list[Point] = []
     for at in range(0, len(rest) - 2, 3):
         curve = Cubic(start, rest[at], rest[at + 1], rest[at + 2])
-        count = curve.chords(tolerance)
+        count = curve.chords(budget.tolerance)
+        budget.take_points(count)
         ends += [curve.point(step, count) for step in range(1, count)]
         ends.append(curve.end)
         start = curve.end
@@ -140,23 +143,32 @@ class Oval(NamedTuple):
         longest = (squares + _root_above(max(0, squares**2 - 4 * area**2), 1) + 1) // 2
         return _chords(_root_above(longest, 1), 2 * tolerance, 2)
 
+    def _steps_from(self, budget: Budget) -> int:
+        """How many chords a quarter needs; those of all quarters are taken from what is left."""
+        steps = self.steps(budget.tolerance)
+        budget.take_points(4 * steps)
+        return steps
+
     def vertex(self, place: int, steps: int) -> Point:
         """The end of a chord, by its place from 0 to 4 * steps - 1."""
         return self.point(_vertex_direction(place, steps))
 
-    def ring(self, tolerance: int) -> list[Point]:
-        """The whole ellipse as a closed polygon."""
-        steps = self.steps(tolerance)
+    def ring(self, budget: Budget) -> list[Point]:
+        """The whole ellipse as a closed polygon. Raises Fault as `flattened` does."""
+        steps = self._steps_from(budget)
         return [self.vertex(place, steps) for place in range(4 * steps)]
 
-    def quarter(self, quarter: int, tolerance: int) -> list[Point]:
-        """One quarter, from its axis to the next one."""
-        steps = self.steps(tolerance)
+    def quarter(self, quarter: int, budget: Budget) -> list[Point]:
+        """One quarter, from its axis to the next one. Raises Fault as `flattened` does."""
+        steps = self._steps_from(budget)
         return [self.vertex(quarter * steps + place, steps) for place in range(steps + 1)]
 
-    def arc(self, start: Direction, end: Direction, tolerance: int) -> list[Point]:
-        """From one direction to another by growing angles; the whole ellipse if they are the same."""
-        steps = self.steps(tolerance)
+    def arc(self, start: Direction, end: Direction, budget: Budget) -> list[Point]:
+        """From one direction to another by growing angles; the whole ellipse if they are the same.
+
+        Raises Fault as `flattened` does.
+        """
+        steps = self._steps_from(budget)
         first, last = _place(start, steps), _place(end, steps)
         is_after = start.x * end.y - start.y * end.x > 0
         if last < first or (last == first and not is_after):

@@ -62,6 +62,7 @@ HANDLERS: dict[int, Handler] = {
     65: emf_paths.flatten,
     67: emf_paths.select_path,
     68: emf_paths.abort,
+    70: emf_state.comment,
     75: emf_paths.select_region,
     76: emf_blits.bit_blit,
     77: emf_blits.stretch_blit,
@@ -88,4 +89,7 @@ HANDLERS: dict[int, Handler] = {
 _UNSUPPORTED = {26, 41, 53, 56, 66, 71, 72, 73, 74, 78, 79, 80, 92, 93, 96, 97, 99, 100, 101, 102, 103, 104}
 _UNSUPPORTED |= {111, 112, 113, 118, 121, 122}
 
-EMF_STEPS = Steps(HANDLERS, frozenset(_UNSUPPORTED), frozenset({83, 84, 108}))
+_TEXTS = {83, 84, 108}
+_DRAWINGS = {2, 3, 4, 7, 8, 15, 42, 43, 44, 45, 46, 47, 76, 77, 81, 85, 86, 87, 90, 91, 114, 116}
+
+EMF_STEPS = Steps(HANDLERS, frozenset(_UNSUPPORTED), frozenset(_TEXTS), frozenset(_DRAWINGS))

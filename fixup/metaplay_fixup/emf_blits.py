@@ -5,7 +5,7 @@ from __future__ import annotations
 from dataclasses import dataclass
 
 from .affine import Point
-from .bitmaps import plays_as_stored, read_dib, read_picture, stored
+from .bitmaps import plays_as_stored, read_dib, stored
 from .blends import Layer, blended, keyed
 from .emf_objects import bitmap_parts
 from .emf_session import EmfSession
@@ -135,7 +135,7 @@ def _shown(session: EmfSession, blit: Blit, counts_as_stored: bool) -> Placed | 
     first, last = _corners(session, blit)
     if not blit.header:
         raise Fault(FaultName.SourceMissing)
-    picture = read_picture(blit.header, blit.bits, blit.usage, session.state.palette)
+    picture = session.picture(blit.header, blit.bits, blit.usage)
     across = side(first.x, last.x, blit.source.x, blit.source_extent.x)
     down = side(first.y, last.y, blit.source.y, blit.source_extent.y)
     if counts_as_stored and not read_dib(blit.header).is_top_down:

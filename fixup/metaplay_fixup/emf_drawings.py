@@ -94,7 +94,7 @@ def beziers(session: EmfSession) -> None:
     """EMR_POLYBEZIER and EMR_POLYBEZIER16."""
     points = session.kind_at_hand.point_lists(session.data)[0]
     placed = _on_device(session, points)
-    curve = placed[:1] + (flattened(placed[0], placed[1:], session.grid.tolerance) if placed else [])
+    curve = placed[:1] + (flattened(placed[0], placed[1:], session.budget) if placed else [])
     draw_figure(session, Figure(curve, False))
 
 
@@ -105,7 +105,7 @@ def beziers_to(session: EmfSession) -> None:
         session.replace(Action.CURVE)
         return
     start = session.state.device.apply(session.state.position)
-    _joined_curve(session, start, flattened(start, _on_device(session, points), session.grid.tolerance))
+    _joined_curve(session, start, flattened(start, _on_device(session, points), session.budget))
     session.state.position = points[-1]
 
 
@@ -137,19 +137,19 @@ def _page_box(session: EmfSession) -> PageBox:
 
 def ellipse(session: EmfSession) -> None:
     """EMR_ELLIPSE."""
-    draw_figure(session, Figure(_page_box(session).oval().ring(session.grid.tolerance), True))
+    draw_figure(session, Figure(_page_box(session).oval().ring(session.budget), True))
 
 
 def round_rectangle(session: EmfSession) -> None:
     """EMR_ROUNDRECT."""
     corner = session.fields.point("corner_width", "corner_height")
-    draw_figure(session, Figure(_page_box(session).round_rectangle(corner, session.grid.tolerance), True))
+    draw_figure(session, Figure(_page_box(session).round_rectangle(corner, session.budget), True))
 
 
 def _arc_points(session: EmfSession) -> list[Point]:
     fields = session.fields
     start, end = fields.point("start_x", "start_y"), fields.point("end_x", "end_y")
-    return _page_box(session).arc(start, end, session.state.is_clockwise, session.grid.tolerance)
+    return _page_box(session).arc(start, end, session.state.is_clockwise, session.budget)
 
 
 def arc(session: EmfSession) -> None:

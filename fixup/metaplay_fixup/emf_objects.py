@@ -2,7 +2,7 @@
 
 from __future__ import annotations
 
-from .bitmaps import plays_as_stored, read_picture, stored
+from .bitmaps import plays_as_stored, stored
 from .emf_session import EmfSession
 from .faults import Fault, FaultName
 from .objects import FIRST_STOCK, Brush, Palette, Pen, logical_font, read_palette, stock_object
@@ -51,7 +51,7 @@ def create_pen(session: EmfSession) -> None:
     fields = session.fields
     is_null = fields["style"] & 15 == _NULL_PEN
     data = _with_colour(session, is_null)
-    session.objects[fields["index"]] = Pen(abs(fields["width"]), is_null, data)
+    session.make(fields["index"], Pen(abs(fields["width"]), is_null, data))
 
 
 def create_long_pen(session: EmfSession) -> None:
@@ -60,7 +60,7 @@ def create_long_pen(session: EmfSession) -> None:
     is_null = fields["style"] & 15 == _NULL_PEN or fields["brush_style"] == _NULL_BRUSH
     data = _with_colour(session, is_null)
     width = fields["width"] if fields["style"] & _GEOMETRIC else 0
-    session.objects[fields["index"]] = Pen(width, is_null, data)
+    session.make(fields["index"], Pen(width, is_null, data))
 
 
 def _with_colour(session: EmfSession, is_null: bool) -> bytes:
@@ -78,19 +78,19 @@ def create_brush(session: EmfSession) -> None:
     """EMR_CREATEBRUSHINDIRECT."""
     fields = session.fields
     _with_colour(session, fields["style"] == _NULL_BRUSH)
-    session.objects[fields["index"]] = Brush()
+    session.make(fields["index"], Brush())
 
 
 def create_bitmap_brush(session: EmfSession) -> None:
     """EMR_CREATEDIBPATTERNBRUSHPT. A bitmap that the checker doesn't read becomes one of 24 bits."""
     fields = session.fields
-    session.objects[fields["index"]] = Brush()
+    session.make(fields["index"], Brush())
     header, bits = bitmap_parts(session)
     usage = fields["usage"]
     if plays_as_stored(header, usage):
         session.keep()
         return
-    picture = read_picture(header, bits, usage, session.state.palette)
+    picture = session.picture(header, bits, usage)
     header, bits = stored(picture)
     numbers = (fields["index"], 0, 32, len(header), 32 + len(header), len(bits))
     session.replace(Action.BITMAP, [session.write("EMR_CREATEDIBPATTERNBRUSHPT", *numbers, rest=header + bits)])
@@ -114,7 +114,7 @@ def bitmap_parts(session: EmfSession) -> tuple[bytes, bytes]:
 def create_palette(session: EmfSession) -> None:
     """EMR_CREATEPALETTE."""
     fields = session.fields
-    session.objects[fields["index"]] = read_palette(session.data, _PALETTE_AT, fields["entries"])
+    session.make(fields["index"], read_palette(session.data, _PALETTE_AT, fields["entries"]))
     session.keep()
 
 
@@ -124,5 +124,5 @@ def create_font(session: EmfSession) -> None:
     letters = numbers_at(session.data, _FACE_AT, _FACE_LENGTH, "H")
     end = letters.index(0) if 0 in letters else len(letters)
     face = b"".join(letter.to_bytes(2, "little") for letter in letters[:end]).decode("utf-16-le", "replace")
-    session.objects[fields["index"]] = logical_font(fields, face)
+    session.make(fields["index"], logical_font(fields, face))
     session.keep()

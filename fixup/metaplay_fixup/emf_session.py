@@ -5,6 +5,7 @@ from __future__ import annotations
 from collections.abc import Callable, Sequence
 
 from .affine import Point
+from .budgets import Budget
 from .emf_blocks import Grid, Lines, lines_record, origin_near
 from .emf_kinds import EMF
 from .faults import Fault, FaultName
@@ -31,6 +32,7 @@ class EmfSession(Session):
         super().__init__(metafile, options, texts, EMF)
         self.header: Fields = EMF.named("EMR_HEADER").read(metafile.records[0])
         self.grid = Grid.of_header(self.header, options.bound)
+        self.budget = Budget(self.grid.tolerance)
         self.extra = max(1, self.header["handles"])
         self.uses_extra = False
         self.objects: dict[int, Object] = {}
@@ -66,6 +68,15 @@ class EmfSession(Session):
             handles=max(handles, self.extra + 1) if self.uses_extra else handles,
         )
         return header + b"".join(records[1:])
+
+    def make(self, index: int, new: Object) -> None:
+        """Takes an object that the file makes. Raises Fault NoSuchHandle for an index that the file can't use.
+
+        A block would make that index a valid one, since it adds one to the header's count.
+        """
+        if not 0 < index < self.header["handles"]:
+            raise Fault(FaultName.NoSuchHandle)
+        self.objects[index] = new
 
     def keep_in_path(self) -> None:
         """Takes over a record that belongs to the path, as long as the path is plain; otherwise the record is left
@@ -156,8 +167,13 @@ class EmfSession(Session):
             return self.block(first, drawn)
         make = self._pen_record(pen, pen.data)
         select, delete = self.write("EMR_SELECTOBJECT", self.extra), self.write("EMR_DELETEOBJECT", self.extra)
-        records = self.block(first, lambda origin: [make, select, *drawn(origin)] if drawn(origin) else [])
-        return [*records, delete] if records else []
+
+        def with_pen(origin: Point) -> list[bytes]:
+            records = drawn(origin)
+            return [make, select, *records] if records else []
+
+        block = self.block(first, with_pen)
+        return [*block, delete] if block else []
 
     def _pen_record(self, pen: Pen, data: bytes) -> bytes:
         index = self.use_extra()

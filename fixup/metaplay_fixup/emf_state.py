@@ -17,6 +17,8 @@ _METRIC_UNITS = {2: (1, 1), 3: (10, 1), 4: (100, 254), 5: (1000, 254), 6: (1440,
 
 _LARGEST_DEVICE = 65535
 
+_COMMENT_AT, _EMF_PLUS = 12, b"EMF+"
+
 
 def _is_scaled(session: EmfSession) -> bool:
     return session.state.page.mode in (ISOTROPIC, ANISOTROPIC)
@@ -199,3 +201,11 @@ def _take_world(session: EmfSession, world: World, is_reset: bool) -> None:
 
 def _has_identity(session: EmfSession) -> bool:
     return read_world(session.fields) == IDENTITY_WORLD
+
+
+def comment(session: EmfSession) -> None:
+    """EMR_COMMENT: one that holds EMF+ ([MS-EMF] 2.3.3.2) is left out if the caller says so."""
+    if session.options.drop_emf_plus and session.data[_COMMENT_AT : _COMMENT_AT + len(_EMF_PLUS)] == _EMF_PLUS:
+        session.replace(Action.EMF_PLUS)
+    else:
+        session.keep()

@@ -27,6 +27,7 @@ class Action(Enum):
     COLOUR = "colour"
     EXTENT = "extent"
     MAP_MODE = "map mode"
+    EMF_PLUS = "EMF+"
 
 
 @dataclass(frozen=True, slots=True)

@@ -5,6 +5,7 @@ from __future__ import annotations
 from typing import NamedTuple
 
 from .affine import Affine, Point
+from .budgets import Budget
 from .curves import Direction, Oval, direction_of
 from .text import Box
 
@@ -47,7 +48,7 @@ class PageBox(NamedTuple):
         centre, sides = self._twice_centre(), self.sides
         return direction_of(Point((2 * target.x - centre.x) * sides.y, (2 * target.y - centre.y) * sides.x))
 
-    def arc(self, start: Point, end: Point, is_clockwise: bool, tolerance: int) -> list[Point]:
+    def arc(self, start: Point, end: Point, is_clockwise: bool, budget: Budget) -> list[Point]:
         """The arc from one ray to another, both through points of the page.
 
         The direction is as the device shows it, y downwards.
@@ -55,14 +56,14 @@ class PageBox(NamedTuple):
         first, last = self.direction(start), self.direction(end)
         grows_clockwise = self.device.determinant() > 0
         if is_clockwise == grows_clockwise:
-            return self.oval().arc(first, last, tolerance)
-        return self.oval().arc(last, first, tolerance)[::-1]
+            return self.oval().arc(first, last, budget)
+        return self.oval().arc(last, first, budget)[::-1]
 
     def centre(self) -> Point:
         """The centre in fixed device units."""
         return self.device.apply_part(self._twice_centre(), 2)
 
-    def round_rectangle(self, corner: Point, tolerance: int) -> list[Point]:
+    def round_rectangle(self, corner: Point, budget: Budget) -> list[Point]:
         """The box with corners that are quarters of an ellipse with these diameters, in page units."""
         sides = self.sides
         width, height = min(abs(corner.x), sides.x), min(abs(corner.y), sides.y)
@@ -70,4 +71,4 @@ class PageBox(NamedTuple):
         top, bottom = 2 * self.box.top + height, 2 * self.box.bottom - height
         centres = (Point(right, bottom), Point(left, bottom), Point(left, top), Point(right, top))
         ovals = [self.oval_at(centre, Point(width, height)) for centre in centres]
-        return [point for place, oval in enumerate(ovals) for point in oval.quarter(place, tolerance)]
+        return [point for place, oval in enumerate(ovals) for point in oval.quarter(place, budget)]

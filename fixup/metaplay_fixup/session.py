@@ -4,10 +4,13 @@ from __future__ import annotations
 
 from collections.abc import Sequence
 
+from .bitmaps import read_dib, read_picture
+from .budgets import Budget
 from .faults import Fault, FaultName
 from .objects import colour_word, plays_as_written, read_colour
 from .options import Options
 from .output import Action, Entry, Output, Source
+from .pictures import Picture
 from .reader import Metafile
 from .records import Fields, Kind, Table
 from .state import SavedStates, State
@@ -25,6 +28,7 @@ class Session:
         self.options = options
         self.texts = texts
         self.table = table
+        self.budget = Budget(1)
         self.state = State()
         self.saved = SavedStates()
         self.output = Output()
@@ -79,6 +83,16 @@ class Session:
             return
         colour = colour_word(read_colour(reference, self.state.palette))
         self.replace(Action.COLOUR, [self.kind_at_hand.changed(self.data, colour=colour)])
+
+    def picture(self, header: bytes, bits: bytes, usage: int) -> Picture:
+        """A bitmap as 24 bits. Raises Fault as `read_picture` does, and TooLong if the file's have too many pixels."""
+        dib = read_dib(header)
+        if not dib.is_file:
+            self.budget.take_pixels(dib.width * dib.height)
+        picture = read_picture(header, bits, usage, self.state.palette)
+        if dib.is_file:
+            self.budget.take_pixels(picture.width * picture.height)
+        return picture
 
     def insert(self, *records: bytes) -> None:
         """Puts records before the one at hand."""

@@ -17,13 +17,14 @@ SessionType = TypeVar("SessionType", bound=Session)
 class Steps(Generic[SessionType]):
     """The handlers of a format's records by their numbers.
 
-    Kinds in `unsupported` are neither played by the checker nor replaced. Kinds in `texts` are text. All others are
-    kept.
+    Kinds in `unsupported` are neither played by the checker nor replaced. Kinds in `texts` are text. Kinds in
+    `drawings` change no state. All others are kept.
     """
 
     handlers: Mapping[int, Callable[[SessionType], None]]
     unsupported: frozenset[int]
     texts: frozenset[int]
+    drawings: frozenset[int]
 
     def run(self, session: SessionType) -> None:
         """Takes all records of the session's file over, or replaces them. Raises Fault with the record's number."""
@@ -52,6 +53,9 @@ class Steps(Generic[SessionType]):
         number = session.table.layout.number(session.data)
         if number in self.texts and not session.is_at_header:
             self._text_alone(session, self.handlers[number])
+            return
+        if number in self.drawings:
+            session.keep()
             return
         output = session.output
         session.output = Output()

@@ -57,4 +57,7 @@ HANDLERS: dict[int, Handler] = {
 # Records that neither the checker plays nor the fix-up replaces.
 _UNSUPPORTED = {0x012A, 0x012B, 0x01F9, 0x0220, 0x0228, 0x0419, 0x0429, 0x0548, 0x06FF, 0x0922, 0x0B23, 0x0D33}
 
-WMF_STEPS = Steps(HANDLERS, frozenset(_UNSUPPORTED), frozenset({0x0521, 0x0A32}))
+_TEXTS = {0x0521, 0x0A32}
+_DRAWINGS = {0x0418, 0x041F, 0x061C, 0x0817, 0x081A, 0x0830, 0x0940, 0x0B41, 0x0F43}
+
+WMF_STEPS = Steps(HANDLERS, frozenset(_UNSUPPORTED), frozenset(_TEXTS), frozenset(_DRAWINGS))

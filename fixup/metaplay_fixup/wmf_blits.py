@@ -45,7 +45,7 @@ def _blit(session: WmfSession, extent: Point, usage: int, counts_as_stored: bool
     if plays_as_stored(dib, usage) and _is_source_within(fields, extent, dib):
         session.keep()
         return
-    picture = read_packed(dib, usage, session.state.palette)
+    picture = read_packed(session, dib, usage)
     shown = _shown(fields, extent, picture, counts_as_stored and not read_dib(dib).is_top_down)
     if shown is None:
         session.replace(Action.HIDDEN_BITMAP)

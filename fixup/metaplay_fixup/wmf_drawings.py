@@ -16,20 +16,20 @@ def _page_box(session: WmfSession) -> PageBox:
 
 def ellipse(session: WmfSession) -> None:
     """META_ELLIPSE."""
-    session.draw(Figure(_page_box(session).oval().ring(session.tolerance), True))
+    session.draw(Figure(_page_box(session).oval().ring(session.budget), True))
 
 
 def round_rectangle(session: WmfSession) -> None:
     """META_ROUNDRECT."""
     corner = session.fields.point("corner_width", "corner_height")
-    session.draw(Figure(_page_box(session).round_rectangle(corner, session.tolerance), True))
+    session.draw(Figure(_page_box(session).round_rectangle(corner, session.budget), True))
 
 
 def _arc_points(session: WmfSession) -> list[Point]:
     """The points of an arc, which a WMF always draws counterclockwise."""
     fields = session.fields
     start, end = fields.point("start_x", "start_y"), fields.point("end_x", "end_y")
-    return _page_box(session).arc(start, end, False, session.tolerance)
+    return _page_box(session).arc(start, end, False, session.budget)
 
 
 def arc(session: WmfSession) -> None:

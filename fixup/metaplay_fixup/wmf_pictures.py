@@ -2,16 +2,16 @@
 
 from __future__ import annotations
 
-from .bitmaps import read_dib, read_picture
-from .objects import Palette
+from .bitmaps import read_dib
 from .pictures import Picture, stored
+from .session import Session
 
 
-def read_packed(data: bytes, usage: int, palette: Palette) -> Picture:
-    """A bitmap as 24 bits. Raises Fault as `read_picture` does."""
+def read_packed(session: Session, data: bytes, usage: int) -> Picture:
+    """A bitmap as 24 bits. Raises Fault as `Session.picture` does."""
     dib = read_dib(data)
     rows_at = dib.header_size + dib.table_size(usage)
-    return read_picture(data[:rows_at], data[rows_at:], usage, palette)
+    return session.picture(data[:rows_at], data[rows_at:], usage)
 
 
 def stored_packed(picture: Picture) -> bytes:

@@ -5,6 +5,7 @@ from __future__ import annotations
 from collections.abc import Sequence
 
 from .affine import Point
+from .budgets import Budget
 from .faults import Fault, FaultName
 from .fixed import ONE
 from .objects import Pen
@@ -27,7 +28,7 @@ _WIDEST = 0x7FFF
 
 
 class WmfSession(Session):
-    """A conversion of a WMF file. `tolerance` is how far chords may be from a curve, in fixed device units."""
+    """A conversion of a WMF file."""
 
     def __init__(self, metafile: Metafile, options: Options, texts: TextLayer | None) -> None:
         super().__init__(metafile, options, texts, WMF)
@@ -36,7 +37,7 @@ class WmfSession(Session):
         self.state.set_page(page)
         self.slots = Slots()
         longer = max(page.viewport_extent)
-        self.tolerance = max(1, longer * ONE // (_PARTS_OF_PIXEL * options.bound))
+        self.budget = Budget(max(1, longer * ONE // (_PARTS_OF_PIXEL * options.bound)))
 
     @property
     def is_scaled(self) -> bool:

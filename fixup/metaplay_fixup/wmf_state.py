@@ -262,7 +262,7 @@ def create_bitmap_brush(session: WmfSession) -> None:
     if plays_as_stored(dib, usage):
         session.keep()
         return
-    picture = read_packed(dib, usage, session.state.palette)
+    picture = read_packed(session, dib, usage)
     record = session.write("META_DIBCREATEPATTERNBRUSH", _DIB_PATTERN, 0, rest=stored_packed(picture))
     session.replace(Action.BITMAP, [record])
 

@@ -7,6 +7,8 @@ from fractions import Fraction
 from math import hypot
 
 from metaplay_fixup.affine import IDENTITY, Affine, Point
+from metaplay_fixup.budgets import Budget
+from metaplay_fixup.faults import Fault, FaultName
 from metaplay_fixup.curves import Cubic, Direction, Oval, direction_of, flattened
 from metaplay_fixup.fixed import ONE
 from metaplay_fixup.rounds import PageBox
@@ -54,7 +56,7 @@ class Beziers(unittest.TestCase):
         """Forty points of each chord's part of the curve are near it."""
         for curve in CURVES:
             count = curve.chords(TOLERANCE)
-            points = [curve.start, *flattened(curve.start, curve[1:], TOLERANCE)]
+            points = [curve.start, *flattened(curve.start, curve[1:], Budget(TOLERANCE))]
             self.assertEqual(len(points), count + 1)
             for part in range(40 * count):
                 x, y = on_curve(curve, Fraction(part, 40 * count))
@@ -71,7 +73,18 @@ class Beziers(unittest.TestCase):
     def test_straight(self) -> None:
         """Evenly spaced points on a line need one chord; points beyond the last whole three are left out."""
         points = [Point(place * ONE, 0) for place in range(1, 6)]
-        self.assertEqual(flattened(Point(0, 0), points, TOLERANCE), [Point(3 * ONE, 0)])
+        self.assertEqual(flattened(Point(0, 0), points, Budget(TOLERANCE)), [Point(3 * ONE, 0)])
+
+    def test_limits(self) -> None:
+        """A curve out of all proportion is OffPlane; all of a file may have as many chords as its budget has points."""
+        with self.assertRaises(Fault) as raised:
+            flattened(Point(0, 0), [Point(0, 0), Point(1 << 50, 0), Point(0, 0)], Budget(TOLERANCE))
+        self.assertEqual(raised.exception.name, FaultName.OffPlane)
+        points = [Point(place * ONE, 0) for place in range(1, 13)]
+        self.assertEqual(len(flattened(Point(0, 0), points, Budget(TOLERANCE, points=4))), 4)
+        with self.assertRaises(Fault) as raised:
+            flattened(Point(0, 0), points, Budget(TOLERANCE, points=3))
+        self.assertEqual(raised.exception.name, FaultName.TooManyEdges)
 
 
 class Ovals(unittest.TestCase):
@@ -91,7 +104,7 @@ class Ovals(unittest.TestCase):
         ]
         for oval in ovals:
             steps = oval.steps(TOLERANCE)
-            ring = oval.ring(TOLERANCE)
+            ring = oval.ring(Budget(TOLERANCE))
             for place, point in enumerate(ring):
                 following = ring[(place + 1) % len(ring)]
                 step = place % steps
@@ -117,7 +130,7 @@ class Arcs(unittest.TestCase):
 
     def arc(self, start: Point, end: Point, is_clockwise: bool) -> list[Point]:
         """The points of an arc with the tolerance of this test."""
-        return self.BOX.arc(start, end, is_clockwise, TOLERANCE)
+        return self.BOX.arc(start, end, is_clockwise, Budget(TOLERANCE))
 
     def test_ends(self) -> None:
         """The ends are where the rays meet the ellipse, however long the rays are."""
@@ -151,12 +164,12 @@ class Arcs(unittest.TestCase):
     def test_page_that_points_up(self) -> None:
         """The direction is that of the device: on a page whose y points up, from the right to the top of the page."""
         box = PageBox.ordered(Box(0, 0, 100, 60), Affine(1, 0, 0, -1, 0, 60))
-        for point in box.arc(Point(100, 30), Point(50, 60), False, TOLERANCE):
+        for point in box.arc(Point(100, 30), Point(50, 60), False, Budget(TOLERANCE)):
             self.assertTrue(point.x >= 50 * ONE and point.y <= 30 * ONE)
 
     def test_round_rectangle(self) -> None:
         """Corners of 20 by 10 in a box of 100 by 60: the straight parts begin 10 and 5 from its corners."""
-        points = self.BOX.round_rectangle(Point(20, 10), TOLERANCE)
+        points = self.BOX.round_rectangle(Point(20, 10), Budget(TOLERANCE))
         ends = [(100, 55), (90, 60), (10, 60), (0, 55), (0, 5), (10, 0), (90, 0), (100, 5)]
         for x, y in ends:
             self.assertIn((x * ONE, y * ONE), points)
@@ -164,7 +177,7 @@ class Arcs(unittest.TestCase):
 
     def test_corners_larger_than_the_box(self) -> None:
         """They make an ellipse."""
-        points = self.BOX.round_rectangle(Point(500, -500), TOLERANCE)
+        points = self.BOX.round_rectangle(Point(500, -500), Budget(TOLERANCE))
         middle = [(100, 30), (50, 60), (0, 30), (50, 0)]
         for x, y in middle:
             self.assertIn((x * ONE, y * ONE), points)

@@ -87,6 +87,29 @@ class Kept(unittest.TestCase):
         self.assertEqual(chord_tolerance(emf_file([]), Options()), 100 * ONE // 65536)
 
 
+class Comments(unittest.TestCase):
+    """Comments stay, but those with EMF+ if the caller says so."""
+
+    def test_emf_plus(self) -> None:
+        """One with EMF+ and another one."""
+        records = [emf_record(70, u32(8) + b"EMF+abcd"), emf_record(70, u32(4) + b"EMF-"), *emf_script("pixel 1 1")]
+        data = emf_file(records)
+        self.assertEqual(convert(data, Options(), None).data, data)
+        (place,) = converted(records, Options(drop_emf_plus=True))
+        self.assertEqual((place.first, place.count, place.records), (1, 1, []))
+
+
+class Objects(unittest.TestCase):
+    """Objects have the indexes that the header allows."""
+
+    def test_indexes(self) -> None:
+        """An index that only a block's own would make valid is a fault."""
+        for index in (0, 4, 5, 0x80000000):
+            with self.assertRaises(Fault) as raised:
+                convert(emf_file([emf_record(39, u32(index, 0, 0, 0))]), Options(), None)
+            self.assertEqual((raised.exception.name, raised.exception.record), (FaultName.NoSuchHandle, 1))
+
+
 class Worlds(unittest.TestCase):
     """Drawings under a world are transformed."""
 

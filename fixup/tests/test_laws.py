@@ -1,11 +1,15 @@
 """What holds of each conversion: of the samples, of made files, and of mutants of both."""
 
 import random
+import struct
 import time
 import unittest
+from functools import partial
+from unittest.mock import patch
 
+from metaplay_fixup.budgets import Budget
 from metaplay_fixup.convert import Converted, convert
-from metaplay_fixup.faults import Fault
+from metaplay_fixup.faults import Fault, FaultName
 from metaplay_fixup.options import AlphaRule, Options
 
 from .oracle import (
@@ -17,6 +21,7 @@ from .oracle import (
     i32,
     placeable_file,
     refusal_of,
+    u32,
     wmf_record,
     wmf_script,
 )
@@ -158,6 +163,39 @@ class Laws(unittest.TestCase):
                 pass
             self.assertLess(time.process_time() - start, SECONDS_OF_A_FILE, number)
         self.assertGreater(converted, MUTANTS // 4)
+
+
+class Bombs(unittest.TestCase):
+    """Small files that ask for very much end by themselves, with a named fault."""
+
+    def fault_of(self, records: list[bytes], points: int = 100_000) -> FaultName:
+        """The fault of a file, which must come soon, where curves may have so many chords."""
+        start = time.process_time()
+        with self.assertRaises(Fault) as raised, patch(
+            "metaplay_fixup.emf_session.Budget", partial(Budget, points=points)
+        ):
+            convert(emf_file(records), Options(), Squares())
+        self.assertLess(time.process_time() - start, SECONDS_OF_A_FILE)
+        return raised.exception.name
+
+    def test_dropped_paths(self) -> None:
+        """Paths of long curves that are dropped again: their chords are counted."""
+        curve = emf_record(2, i32(0, 0, -1, -1, 4) + i32(0, 0, 9999, 0, -9999, 50, 0, 99))
+        path = [*emf_script("begin_path"), *[curve] * 10, *emf_script("end_path; abort_path")]
+        self.assertEqual(self.fault_of(path * 300), FaultName.TooManyEdges)
+
+    def test_hidden_bitmaps(self) -> None:
+        """Bitmaps of few bytes and many pixels that aren't shown: their pixels are counted."""
+        info = struct.pack("<IiiHHIIiiII", 40, 4000, 4000, 1, 8, 1, 0, 0, 0, 2, 0) + bytes(8)
+        parts = u32(80, len(info), 80 + len(info), 2, 0, 0xCC0020)
+        hidden = emf_record(81, i32(0, 0, -1, -1, 0, 0, 5000, 0, 4, 4) + parts + i32(9, 9) + info + b"\0\1\0\0")
+        self.assertEqual(self.fault_of([hidden] * 1000), FaultName.TooLong)
+
+    def test_long_curves(self) -> None:
+        """Curves far outside of the frame: one out of all proportion is rejected at once, and others are counted."""
+        far, near = (emf_record(42, i32(-side, -side, side, side)) for side in (1 << 30, 60000))
+        self.assertEqual(self.fault_of([far]), FaultName.OffPlane)
+        self.assertEqual(self.fault_of([near] * 1000), FaultName.TooManyEdges)
 
 
 class Growth(unittest.TestCase):
