@@ -51,12 +51,10 @@ class Grid:
         longer = max(1, right - left + 1, bottom - top + 1)
         if longer > 1 << 28:
             raise Fault(FaultName.NoFrame)
-        plane_parts = 1
-        while plane_parts < _MOST_PARTS and plane_parts * 2 * longer <= _MOST_PARTS_OF_SIDE:
-            plane_parts *= 2
-        parts = 1
-        while parts < plane_parts and parts * longer < _PARTS_OF_PIXEL * bound:
-            parts *= 2
+        room = max(1, _MOST_PARTS_OF_SIDE // longer)
+        plane_parts = min(_MOST_PARTS, 1 << (room.bit_length() - 1))
+        wanted = -(-_PARTS_OF_PIXEL * bound // longer)
+        parts = min(plane_parts, 1 << (wanted - 1).bit_length())
         tolerance = max(1, longer * ONE // (_PARTS_OF_PIXEL * bound))
         return Grid(parts, plane_parts, Point(left, top), tolerance)
 

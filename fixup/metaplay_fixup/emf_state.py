@@ -6,6 +6,7 @@ from dataclasses import replace
 
 from .affine import Point
 from .emf_session import EmfSession
+from .extents import scaled_extent
 from .faults import Fault, FaultName
 from .objects import read_colour
 from .output import Action
@@ -63,7 +64,7 @@ def viewport_origin(session: EmfSession) -> None:
 def scale_viewport(session: EmfSession) -> None:
     """EMR_SCALEVIEWPORTEXTEX becomes EMR_SETVIEWPORTEXTEX."""
     if _is_scaled(session):
-        extent = _scaled(session, session.state.page.viewport_extent)
+        extent = scaled_extent(session.fields, session.state.page.viewport_extent)
         session.state.set_page(replace(session.state.page, viewport_extent=extent))
         session.replace(Action.EXTENT, [session.write("EMR_SETVIEWPORTEXTEX", *extent)])
     else:
@@ -73,28 +74,11 @@ def scale_viewport(session: EmfSession) -> None:
 def scale_window(session: EmfSession) -> None:
     """EMR_SCALEWINDOWEXTEX becomes EMR_SETWINDOWEXTEX."""
     if _is_scaled(session):
-        extent = _scaled(session, session.state.page.window_extent)
+        extent = scaled_extent(session.fields, session.state.page.window_extent)
         session.state.set_page(replace(session.state.page, window_extent=extent))
         session.replace(Action.EXTENT, [session.write("EMR_SETWINDOWEXTEX", *extent)])
     else:
         session.replace(Action.EXTENT)
-
-
-def _scaled(session: EmfSession, extent: Point) -> Point:
-    fields = session.fields
-    x = scaled_side(extent.x, fields["x_numerator"], fields["x_denominator"])
-    y = scaled_side(extent.y, fields["y_numerator"], fields["y_denominator"])
-    return Point(x, y)
-
-
-def scaled_side(side: int, numerator: int, denominator: int) -> int:
-    """A side times a quotient, without its fraction. Raises Fault ZeroExtent if it is 0, or the denominator is."""
-    if denominator == 0:
-        raise Fault(FaultName.ZeroExtent)
-    size = abs(side * numerator) // abs(denominator)
-    if size == 0:
-        raise Fault(FaultName.ZeroExtent)
-    return size if side * numerator * denominator > 0 else -size
 
 
 def map_mode(session: EmfSession) -> None:

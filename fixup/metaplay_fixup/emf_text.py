@@ -99,9 +99,9 @@ def _add_to_path(session: EmfSession, laid: LaidText) -> None:
     path = session.open_path
     assert path is not None
     session.give_up_path()
-    for fill in ink(laid, session.state.text_colour):
-        for contour in fill.contours:
-            path.add(contour, True)
+    contours = [contour for fill in ink(laid, session.state.text_colour) for contour in fill.contours]
+    for contour in contours:
+        path.add(contour, True)
     path.is_joined = False
     session.replace_text(Action.PATH, [], None, laid.note)
 

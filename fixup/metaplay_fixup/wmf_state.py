@@ -7,7 +7,7 @@ from dataclasses import replace
 from .affine import Point
 from .bitmaps import plays_as_stored
 from .clips import Clip
-from .emf_state import scaled_side
+from .extents import scaled_extent
 from .faults import Fault, FaultName
 from .objects import Brush, Palette, Pen, logical_font, read_colour, read_palette
 from .output import Action
@@ -114,7 +114,7 @@ def viewport_extent(session: WmfSession) -> None:
 def scale_window(session: WmfSession) -> None:
     """META_SCALEWINDOWEXT becomes META_SETWINDOWEXT."""
     if session.is_scaled:
-        _ask_window(session, _scaled(session, session.state.asked_window))
+        _ask_window(session, scaled_extent(session.fields, session.state.asked_window))
     else:
         session.replace(Action.EXTENT)
 
@@ -127,20 +127,13 @@ def scale_viewport(session: WmfSession) -> None:
     if not session.is_scaled:
         session.replace(Action.EXTENT)
     elif state.has_own_viewport:
-        extent = _scaled(session, state.page.viewport_extent)
+        extent = scaled_extent(session.fields, state.page.viewport_extent)
         state.set_page(replace(state.page, viewport_extent=extent))
         session.replace(Action.EXTENT, [session.write_point("META_SETVIEWPORTEXT", extent)])
     else:
         names = ("x_numerator", "x_denominator", "y_numerator", "y_denominator")
         state.viewport_scale = state.viewport_scale.scaled(ViewportScale(*session.fields.several(*names)))
         _ask_window(session, state.asked_window)
-
-
-def _scaled(session: WmfSession, extent: Point) -> Point:
-    fields = session.fields
-    x = scaled_side(extent.x, fields["x_numerator"], fields["x_denominator"])
-    y = scaled_side(extent.y, fields["y_numerator"], fields["y_denominator"])
-    return Point(x, y)
 
 
 def background_mode(session: WmfSession) -> None:
