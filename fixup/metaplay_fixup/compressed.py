@@ -3,6 +3,7 @@
 from __future__ import annotations
 
 import io
+import warnings
 
 from PIL import Image
 
@@ -16,13 +17,22 @@ def decoded_image(data: bytes, form: str, most_pixels: int) -> Picture:
     Raises Fault BadDib if it is none, or has more pixels than allowed.
     """
     try:
-        with Image.open(io.BytesIO(data), formats=[form]) as image:
-            if image.width * image.height > most_pixels:
-                raise Fault(FaultName.BadDib, f"{image.width} by {image.height} pixels")
-            red, green, blue, alpha = (channel.tobytes() for channel in image.convert("RGBA").split())
-            width, height = image.size
-    except (OSError, ValueError, SyntaxError, EOFError, Image.DecompressionBombError) as error:
+        with warnings.catch_warnings():
+            warnings.simplefilter("error")
+            return _opened_image(data, form, most_pixels)
+    except (Fault, MemoryError):
+        raise
+    except Exception as error:
+        # Pillow has no exception of its own for broken files: besides OSError it raises whatever its parts do.
         raise Fault(FaultName.BadDib, f"{form}: {error}") from error
+
+
+def _opened_image(data: bytes, form: str, most_pixels: int) -> Picture:
+    with Image.open(io.BytesIO(data), formats=[form]) as image:
+        width, height = image.size
+        if width * height > most_pixels:
+            raise Fault(FaultName.BadDib, f"{width} by {height} pixels")
+        red, green, blue, alpha = (channel.tobytes() for channel in image.convert("RGBA").split())
     return Picture(width, height, joined(width, height, (blue, green, red)).pixels, alpha)
 
 

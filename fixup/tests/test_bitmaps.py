@@ -1,6 +1,7 @@
 """Bitmaps of all kinds as 24 bits, and blits of pixels that aren't drawn."""
 
 import io
+import random
 import struct
 import unittest
 
@@ -141,6 +142,29 @@ class Compressed(unittest.TestCase):
             with self.assertRaises(Fault) as raised:
                 read_picture(header(2, 1, 0, 4), data, 0, NO_PALETTE)
             self.assertEqual(raised.exception.name, FaultName.BadDib)
+
+    def test_broken_images(self) -> None:
+        """Files inside that were changed are read, or are BadDib."""
+        source = random.Random(3)
+        for form, compression in (("PNG", 5), ("JPEG", 4)):
+            file = io.BytesIO()
+            Image.linear_gradient("L").resize((40, 30)).convert("RGB").save(file, form)
+            whole = file.getvalue()
+            for _ in range(300):
+                changed = bytearray(whole[: source.randrange(len(whole) // 2, len(whole) + 1)])
+                changed[source.randrange(len(changed))] = source.randrange(256)
+                try:
+                    read_picture(header(40, 30, 0, compression), bytes(changed), 0, NO_PALETTE)
+                except Fault as fault:
+                    self.assertEqual(fault.name, FaultName.BadDib)
+
+    def test_image_bomb(self) -> None:
+        """A PNG of 20,000 by 20,000 pixels in few bytes isn't decoded."""
+        file = io.BytesIO()
+        Image.new("1", (20000, 20000)).save(file, "PNG")
+        with self.assertRaises(Fault) as raised:
+            read_picture(header(1, 1, 0, 5), file.getvalue(), 0, NO_PALETTE)
+        self.assertEqual(raised.exception.name, FaultName.BadDib)
 
 
 class Stored(unittest.TestCase):

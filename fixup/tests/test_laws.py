@@ -134,6 +134,14 @@ class Laws(unittest.TestCase):
             for bound in (1, 64, 1000, 8192):
                 self.assertIsNone(refusal_of(self.check(data, Options(bound=bound)).data))
 
+    def test_marks_of_before(self) -> None:
+        """A file with marks, in which text was left, is converted again: its own marks stay and mislead nobody."""
+        for data in made_files():
+            first = convert(data, Options(), None).data
+            second = self.check(first, Options())
+            self.assertIsNone(refusal_of(second.data))
+            self.assertEqual({place.count > 0 for place in places_of(first, second.data)}, {True})
+
     def test_smaller_bounds(self) -> None:
         """A smaller bound gives a smaller file."""
         for data in made_files():
