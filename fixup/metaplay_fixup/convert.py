@@ -58,5 +58,6 @@ def chord_tolerance(data: bytes, options: Options) -> int:
     files whose headers can't be read.
     """
     metafile = read_metafile(data)
-    kind = EmfSession if metafile.form is Form.EMF else WmfSession
-    return kind(metafile, options, None).budget.tolerance
+    if metafile.form is Form.EMF:
+        return EmfSession(metafile, options, None).budget.tolerance
+    return WmfSession(metafile, options, None).budget.tolerance

@@ -29,10 +29,9 @@ class EmfSession(Session):
     """A conversion of an EMF file. `extra` is the index of an object that the file itself can't use."""
 
     def __init__(self, metafile: Metafile, options: Options, texts: TextLayer | None) -> None:
-        super().__init__(metafile, options, texts, EMF)
         self.header: Fields = EMF.named("EMR_HEADER").read(metafile.records[0])
         self.grid = Grid.of_header(self.header, options.bound)
-        self.budget = Budget(self.grid.tolerance)
+        super().__init__(metafile, options, texts, EMF, Budget(self.grid.tolerance))
         self.extra = max(1, self.header["handles"])
         self.uses_extra = False
         self.objects: dict[int, Object] = {}

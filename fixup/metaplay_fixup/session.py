@@ -2,6 +2,7 @@
 
 from __future__ import annotations
 
+from abc import ABC, abstractmethod
 from collections.abc import Sequence
 
 from .bitmaps import read_dib, read_picture
@@ -17,18 +18,20 @@ from .state import SavedStates, State
 from .text import Box, Note, TextLayer
 
 
-class Session:
+class Session(ABC):
     """A conversion that goes on from record to record.
 
     `kind` is the kind of the record at hand, whose bytes are `data`.
     """
 
-    def __init__(self, metafile: Metafile, options: Options, texts: TextLayer | None, table: Table) -> None:
+    def __init__(
+        self, metafile: Metafile, options: Options, texts: TextLayer | None, table: Table, budget: Budget
+    ) -> None:
         self.metafile = metafile
         self.options = options
         self.texts = texts
         self.table = table
-        self.budget = Budget(1)
+        self.budget = budget
         self.state = State()
         self.saved = SavedStates()
         self.output = Output()
@@ -108,13 +111,13 @@ class Session:
         """Whether drawings are added to a path."""
         return False
 
+    @abstractmethod
     def move_record(self) -> bytes:
         """The record that moves the position to where it is."""
-        raise NotImplementedError
 
+    @abstractmethod
     def file(self, records: list[bytes]) -> bytes:
         """The file of these records, with counts and sizes in its headers."""
-        raise NotImplementedError
 
     def save(self) -> None:
         """Saves the state, and keeps the record."""

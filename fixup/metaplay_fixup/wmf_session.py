@@ -31,13 +31,12 @@ class WmfSession(Session):
     """A conversion of a WMF file."""
 
     def __init__(self, metafile: Metafile, options: Options, texts: TextLayer | None) -> None:
-        super().__init__(metafile, options, texts, WMF)
         page = _first_map(metafile)
+        tolerance = max(page.viewport_extent) * ONE // (_PARTS_OF_PIXEL * options.bound)
+        super().__init__(metafile, options, texts, WMF, Budget(max(1, tolerance)))
         self.state.asked_window = page.window_extent
         self.state.set_page(page)
         self.slots = Slots()
-        longer = max(page.viewport_extent)
-        self.budget = Budget(max(1, longer * ONE // (_PARTS_OF_PIXEL * options.bound)))
 
     @property
     def is_scaled(self) -> bool:

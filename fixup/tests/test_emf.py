@@ -163,7 +163,9 @@ class Worlds(unittest.TestCase):
         script = emf_script("move 1 1; line 3 1")
         records = [world(2, 0, 0, 2, 0, 0), *script, modify(1, 0, 0, 0, 0, 0, 0), *emf_script("line 3 9")]
         line = emf_record(87, i32(2, 2, 6, 2) + u32(2) + i16(0, 0, 4096, 0))
-        self.assertEqual(contents(records), [[], block(2, 2, line), [emf_record(27, i32(3, 1))]])
+        places = converted(records)
+        self.assertEqual([place.records for place in places], [[], block(2, 2, line), [emf_record(27, i32(3, 1))]])
+        self.assertEqual([(place.first, place.count) for place in places], [(1, 1), (3, 1), (5, 0)])
 
     def test_pixel(self) -> None:
         """A pixel lands where its point does."""

@@ -1,10 +1,14 @@
 """What holds of each conversion: of the samples, of made files, and of mutants of both."""
 
+import os
 import random
 import struct
+import subprocess
+import sys
 import time
 import unittest
 from functools import partial
+from pathlib import Path
 from unittest.mock import patch
 
 from metaplay_fixup.budgets import Budget
@@ -29,6 +33,8 @@ from .parts import is_emf, places_of, records_of
 from .squares import Squares
 from .test_emf import modify, world
 from .test_text_blocks import UPDATE_POSITION, font, text
+
+PACKAGES = Path(__file__).resolve().parents[1]
 
 MUTANTS = 500
 SECONDS_OF_A_FILE = 5.0
@@ -141,6 +147,21 @@ class Laws(unittest.TestCase):
             second = self.check(first, Options())
             self.assertIsNone(refusal_of(second.data))
             self.assertEqual({place.count > 0 for place in places_of(first, second.data)}, {True})
+
+    def test_same_on_each_run(self) -> None:
+        """Other seeds of Python's hashes give the same bytes."""
+        program = (
+            "from tests.test_laws import *\nimport hashlib\n"
+            "outputs = [convert(data, Options(), Squares()).data for data in made_files()]\n"
+            "print(hashlib.sha256(b''.join(outputs)).hexdigest())"
+        )
+        digests = set()
+        for seed in ("0", "1", "4711"):
+            environment = {**os.environ, "PYTHONHASHSEED": seed}
+            words = [sys.executable, "-c", program]
+            run = subprocess.run(words, cwd=PACKAGES, env=environment, capture_output=True, text=True, check=True)
+            digests.add(run.stdout)
+        self.assertEqual(len(digests), 1)
 
     def test_smaller_bounds(self) -> None:
         """A smaller bound gives a smaller file."""
