@@ -24,7 +24,7 @@ class Pen:
 
 @dataclass(frozen=True, slots=True)
 class Brush:
-    """A brush of any kind."""
+    """A brush of any kind. Blocks draw with the one that is selected, so nothing of it needs to be known."""
 
 
 @dataclass(frozen=True, slots=True)
@@ -53,7 +53,6 @@ def _stock_font(height: int, weight: int, charset: int, face: str) -> LogicalFon
 
 SYSTEM_FONT = _stock_font(16, 700, _ANSI, "System")
 BLACK_PEN = Pen(0, False, None)
-WHITE_BRUSH = Brush()
 
 _STOCK_FONTS = {
     10: _stock_font(12, 400, _OEM, "Courier New"),
@@ -72,7 +71,7 @@ def stock_object(index: int) -> Object | None:
     if place in (6, 7, 8, 19):
         return Pen(0, place == 8, None)
     if 0 <= place <= 5 or place == 18:
-        return WHITE_BRUSH
+        return Brush()
     if place == 15:
         return NO_PALETTE
     return _STOCK_FONTS.get(place)

@@ -8,7 +8,7 @@ from math import isqrt
 from .affine import Affine, Point
 from .clips import NO_CLIP, Clip
 from .faults import Fault, FaultName
-from .objects import BLACK, BLACK_PEN, NO_PALETTE, SYSTEM_FONT, WHITE, WHITE_BRUSH, Brush, Palette, Pen
+from .objects import BLACK, BLACK_PEN, NO_PALETTE, SYSTEM_FONT, WHITE, Palette, Pen
 from .text import OPAQUE, Colour, LogicalFont, PageToDevice, TextSettings
 from .viewports import UNSCALED, ViewportScale
 from .worlds import IDENTITY_WORLD, World
@@ -63,7 +63,6 @@ class State:
     position: Point = _ORIGIN
     output_position: Point | None = _ORIGIN
     pen: Pen = BLACK_PEN
-    brush: Brush = WHITE_BRUSH
     font: LogicalFont = SYSTEM_FONT
     palette: Palette = NO_PALETTE
     text_colour: Colour = BLACK

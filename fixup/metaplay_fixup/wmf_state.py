@@ -200,8 +200,6 @@ def select(session: WmfSession) -> None:
     state = session.state
     if isinstance(found, Pen):
         state.pen = found
-    elif isinstance(found, Brush):
-        state.brush = found
     elif isinstance(found, LogicalFont):
         state.font = found
     session.keep()

@@ -1,5 +1,6 @@
 """Blocks that take the place of text, with a layer of squares whose points are worked out by hand."""
 
+import hashlib
 import unittest
 
 from metaplay_fixup.convert import Converted, convert
@@ -9,6 +10,7 @@ from metaplay_fixup.output import Action
 from metaplay_fixup.text import Box
 
 from .oracle import (
+    EMF_END,
     NO_BOUNDS,
     emf_file,
     emf_record,
@@ -22,7 +24,7 @@ from .oracle import (
     wmf_record,
     wmf_script,
 )
-from .parts import Place, number, places_of
+from .parts import Place, number, places_of, records_of
 from .squares import Squares
 from .test_emf import PARTS, map_to, modify, world
 
@@ -175,6 +177,16 @@ class Emf(unittest.TestCase):
         result = convert(emf_file([*TRANSPARENT, *font(), text("a", 20, 30), text(" ", 0, 0)]), Options(), Squares())
         actions = [(replacement.record, replacement.action, replacement.box) for replacement in result.replacements]
         self.assertEqual(actions, [(4, Action.OUTLINES, Box(20, 30, 30, 40)), (5, Action.BLANK, None)])
+
+    def test_stamps(self) -> None:
+        """Before the end stand the SHA-256 of the original, and the family and SHA-256 of each font."""
+        data = emf_file([*TRANSPARENT, *font(), text("a", 20, 30), text("b", 90, 30)])
+        *_, original, fonts, end = records_of(convert(data, Options(), Squares()).data)
+        self.assertEqual(end, EMF_END)
+        expected = '{"original":"%s"}' % hashlib.sha256(data).hexdigest()
+        self.assertEqual(original[12:20], b"MPFX" + u32(3))
+        self.assertEqual(original[20:].rstrip(b"\0").decode(), expected)
+        self.assertEqual(fonts[20:].rstrip(b"\0").decode(), '{"family":"Squares","sha256":"%s"}' % ("ab" * 32))
 
     def test_text_only(self) -> None:
         """Only text is replaced; the world stays, and is set aside in the block; the position is set at once."""

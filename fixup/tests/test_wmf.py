@@ -96,6 +96,12 @@ class Curves(unittest.TestCase):
         self.assertEqual(pie[3][8:12], i16(0, 0))
         self.assertEqual(pie[3][12:16], i16(50 * 256, 0))
 
+    def test_round_rectangle(self) -> None:
+        """It is a polygon, whose first point is at the end of the right side: (90, 85) with corners of 20 by 10."""
+        (records,) = contents([wmf_record(0x061C, i16(10, 20, 90, 90, 10, 10))])
+        self.assertEqual(number(records[3], 4, 2), 0x0324)
+        self.assertEqual(records[1], wmf_record(0x020B, i16(-85 * 256, -90 * 256)))
+
     def test_header(self) -> None:
         """The header has the file's size and the largest record, in words."""
         data = convert(placeable_file([wmf_record(0x0418, i16(90, 90, 10, 10))]), Options(), None).data
