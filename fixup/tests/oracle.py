@@ -72,3 +72,8 @@ def emf_file(records: list[bytes], width: int = 100, height: int = 100, handles:
 def placeable_file(records: list[bytes], width: int = 100, height: int = 100) -> bytes:
     """A placeable WMF whose box is at the origin, with an end record."""
     return bytes(files.placeable_file([*records, WMF_END], right=i16(width), bottom=i16(height)))
+
+
+def plain_file(records: list[bytes]) -> bytes:
+    """A plain WMF with an end record."""
+    return bytes(files.plain_file([*records, WMF_END]))

@@ -76,6 +76,17 @@ class Depths(unittest.TestCase):
         info = header(1, 1, 32, 3) + struct.pack("<III", 0xFF, 0xFF00, 0xFF0000)
         self.assertEqual(pixels(info, bytes([1, 2, 3, 4])), bytes([3, 2, 1]))
 
+    def test_wide_masks(self) -> None:
+        """Of masks of ten bits the highest eight count: 512 of 1,023 is 128."""
+        info = header(1, 1, 32, 3) + struct.pack("<III", 0x3FF00000, 0xFFC00, 0x3FF)
+        bits = struct.pack("<I", 512 << 20 | 1023 << 10 | 3)
+        self.assertEqual(pixels(info, bits), bytes([0, 255, 128]))
+
+    def test_core_rows(self) -> None:
+        """With the header of 12 bytes the bottom row is stored first."""
+        info = struct.pack("<IHHHH", 12, 1, 2, 1, 24)
+        self.assertEqual(pixels(info, bytes([1, 2, 3, 0, 4, 5, 6, 0])), bytes([4, 5, 6, 1, 2, 3]))
+
     def test_spread(self) -> None:
         """Bits are repeated from the top: those of five bits as the checker spreads them."""
         self.assertEqual([spread(value, 5) for value in (0, 1, 15, 16, 31)], [0, 8, 123, 132, 255])

@@ -142,6 +142,12 @@ class Worlds(unittest.TestCase):
         records = [emf_record(33), world(2, 0, 0, 2, 0, 0), emf_record(34, i32(-1)), *emf_script("polyline 5 0 5 1")]
         self.assertEqual(contents(records), [[]])
 
+    def test_restored_by_number(self) -> None:
+        """1 is the oldest saved state, where the world was the identity."""
+        save, line = emf_record(33), emf_script("polyline 5 0 5 1")
+        records = [save, world(2, 0, 0, 2, 0, 0), save, world(3, 0, 0, 3, 0, 0), emf_record(34, i32(1)), *line]
+        self.assertEqual(contents(records), [[], []])
+
     def test_page_map_after_the_world(self) -> None:
         """x' = ((2 x + 1) - 5) * 3 / 2 + 7 for x = 4 is 13."""
         script = "map_mode 8; window_origin 5 0; window_extent 2 1; viewport_extent 3 1; viewport_origin 7 0"

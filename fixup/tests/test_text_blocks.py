@@ -153,6 +153,13 @@ class Emf(unittest.TestCase):
         self.assertEqual((place.first, place.count), (4, 4))
         self.assertEqual(place.records[-2], square(20, 30, (20, 30)))
 
+    def test_stroked_path(self) -> None:
+        """The squares of text in a path are closed figures, so their outlines end where they begin."""
+        begin, end, stroke = emf_script("begin_path; end_path; stroke_path")
+        (place,) = converted([begin, text("a", 20, 30), end, stroke])
+        points = i16(0, 0, 10240, 0, 10240, 10240, 0, 10240, 0, 0)
+        self.assertEqual(place.records[-2], emf_record(87, i32(20, 30, 30, 40) + u32(5) + points))
+
     def test_small_text(self) -> None:
         """EMR_SMALLTEXTOUT with characters of one byte and without a box."""
         record = emf_record(108, i32(20, 30) + u32(1, 0x300, 1, 0, 0) + b"a\0\0\0")

@@ -7,7 +7,7 @@ from metaplay_fixup.convert import Converted, convert
 from metaplay_fixup.faults import Fault, FaultName
 from metaplay_fixup.options import Options
 
-from .oracle import i16, packed_bitmap, placeable_file, refusal_of, u16, u32, wmf_record, wmf_script
+from .oracle import i16, packed_bitmap, placeable_file, plain_file, refusal_of, u16, u32, wmf_record, wmf_script
 from .parts import number, places_of, records_of
 
 
@@ -22,8 +22,13 @@ def contents(records: list[bytes], width: int = 100, height: int = 100) -> list[
 
 def fault_of(records: list[bytes]) -> FaultName:
     """The fault of a file of these records."""
+    return fault_of_file(placeable_file(records))
+
+
+def fault_of_file(data: bytes) -> FaultName:
+    """The fault of a file."""
     try:
-        convert(placeable_file(records), Options(), None)
+        convert(data, Options(), None)
     except Fault as fault:
         return fault.name
     raise AssertionError("no fault")
@@ -59,6 +64,16 @@ class Curves(unittest.TestCase):
         numbers = struct.unpack_from(f"<{2 * count}h", polygon, 8)
         for x, y in zip(numbers[::2], numbers[1::2]):
             self.assertLess(abs(((x + 40 * 256) ** 2 + y**2) ** 0.5 - 40 * 256), 1)
+
+    def test_plain_file(self) -> None:
+        """The frame is the first window extent with two numbers, neither of them 0."""
+        extents = [wmf_record(0x020C, i16(0, 5)), wmf_record(0x020C, i16(50, 20000))]
+        data = plain_file([wmf_record(0x0103, u16(1)), *extents, wmf_record(0x0103, u16(8)), extents[1]])
+        self.assertEqual(convert(data, Options(), None).data, data)
+        data = plain_file([extents[1], wmf_record(0x0418, i16(40, 19000, 10, 10))])
+        (place,) = places_of(data, convert(data, Options(), None).data)
+        self.assertEqual(place.records[2], wmf_record(0x020C, i16(50 * 256, 20000)))
+        self.assertEqual(fault_of_file(plain_file([extents[0]])), FaultName.NoFrame)
 
     def test_large_window(self) -> None:
         """A window of 20,000 by 50 units has one part across and 256 down, and with a wide pen one on both axes."""
