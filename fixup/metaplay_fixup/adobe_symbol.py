@@ -1,7 +1,7 @@
 """Adobe's Symbol encoding, by names of glyphs.
 
-Fonts of the family Standard Symbols PS have Symbol's glyphs, but no character map of Windows' symbol encoding. Their
-Unicode map can't stand in for it: it has the glyphs of 80 to FF by this encoding, not by Unicode.
+Fonts of the family Standard Symbols PS have Symbol's glyphs, but no character map of Windows' symbol encoding. Their map
+is marked as one of Unicode, and in some versions of the font it is, while others have this encoding in it.
 """
 
 ENCODED_FAMILY = "standard symbols ps"
@@ -32,12 +32,15 @@ angle gradient registerserif copyrightserif trademarkserif product radical dotma
 logicalnot logicaland logicalor arrowdblboth arrowdblleft arrowdblup arrowdblright arrowdbldown
 lozenge angleleft registersans copyrightsans trademarksans summation parenlefttp parenleftex
 parenleftbt bracketlefttp bracketleftex bracketleftbt bracelefttp braceleftmid braceleftbt braceex
-apple angleright integral integraltp integralex integralbt parenrighttp parenrightex
+"""
+_LAST_CODES = """
+angleright integral integraltp integralex integralbt parenrighttp parenrightex
 parenrightbt bracketrighttp bracketrightex bracketrightbt bracerighttp bracerightmid bracerightbt
 """
 
 SYMBOL_NAMES: dict[int, str] = {
     **dict(enumerate(_FIRST_HALF.split(), 0x20)),
     **dict(enumerate(_SECOND_HALF.split(), 0xA0)),
+    **dict(enumerate(_LAST_CODES.split(), 0xF1)),
 }
-"""The glyph of each code from 20 to 7E and from A0 to FE."""
+"""The glyph of each code from 20 to 7E and from A0 to FE, but for F0, which the encoding leaves open."""

@@ -45,8 +45,7 @@ def flattened(contours: tuple[GlyphContour, ...], tolerance: int) -> list[Contou
     for contour in contours:
         polygon = _polygon(contour, tolerance)
         total += len(polygon)
-        if total > MOST_FLAT_POINTS:
-            raise Fault(FaultName.BadFont, f"a glyph has more than {MOST_FLAT_POINTS} points")
+        _check_count(total)
         if len(polygon) > 2:
             polygons.append(polygon)
     return polygons
@@ -56,9 +55,13 @@ def _polygon(contour: GlyphContour, tolerance: int) -> Contour:
     points = [contour.start]
     for piece in contour.pieces:
         points += _chord_ends(points[-1], piece, tolerance)
-        if len(points) > MOST_FLAT_POINTS:
-            break
+        _check_count(len(points))
     return _without_repeats(points)
+
+
+def _check_count(points: int) -> None:
+    if points > MOST_FLAT_POINTS:
+        raise Fault(FaultName.BadFont, f"a glyph has more than {MOST_FLAT_POINTS} points when it is flattened")
 
 
 def _chord_ends(start: Point, piece: Piece, tolerance: int) -> list[Point]:

@@ -12,7 +12,7 @@ from .glyphs import Glyph, check_scripts, glyphs_of
 from .layout import Laid, Line, band, glyph_contours, laid, moved_position
 from .metrics import direction_of, frame_of
 from .scripts import shows_nothing
-from .shapes import ShapeCache
+from .glyph_shapes import ShapeCache
 from .text import (
     CLIPPED_BOX,
     GLYPH_INDEXES,

@@ -13,7 +13,7 @@ from .fonts import FontMetrics
 from .glyphs import Glyph
 from .metrics import VECTOR_BITS, Direction, Frame
 from .scripts import SPACE
-from .shapes import Axes, ShapeCache
+from .glyph_shapes import Axes, ShapeCache
 from .text import BOTTOM, CENTRE, HORIZONTAL_ALIGNMENT, RIGHT, VERTICAL_ALIGNMENT, TextSettings
 
 MOST_POINTS = 1 << 20

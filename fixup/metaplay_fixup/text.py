@@ -4,7 +4,7 @@ from __future__ import annotations
 
 from dataclasses import dataclass
 from enum import Enum
-from typing import Protocol
+from typing import NamedTuple, Protocol
 
 from .affine import Affine, Contour, Point
 
@@ -39,9 +39,8 @@ Colour = tuple[int, int, int]
 """Red, green and blue, each from 0 to 255."""
 
 
-@dataclass(frozen=True, slots=True)
-class Box:
-    """A box in page units, as the record has it: the sides aren't sorted."""
+class Box(NamedTuple):
+    """A box. As a record has it, its sides aren't sorted."""
 
     left: int
     top: int

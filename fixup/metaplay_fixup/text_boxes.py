@@ -2,20 +2,9 @@
 
 from __future__ import annotations
 
-from typing import NamedTuple
-
 from .affine import Contour, Point
 from .faults import Fault, FaultName
 from .text import CLIPPED_BOX, OPAQUE_BOX, Box, LaidText, PageToDevice, TextRecord
-
-
-class DeviceBox(NamedTuple):
-    """A box in fixed device units, with its sides sorted."""
-
-    left: int
-    top: int
-    right: int
-    bottom: int
 
 
 def opaque_box(record: TextRecord, page: PageToDevice) -> Contour | None:
@@ -28,8 +17,10 @@ def opaque_box(record: TextRecord, page: PageToDevice) -> Contour | None:
     return _corners(box, page)
 
 
-def clip_box(record: TextRecord, laid: LaidText, page: PageToDevice) -> DeviceBox | None:
-    """The box that the text must be clipped by, or None if there is none or all of the text lies in it.
+def clip_box(record: TextRecord, laid: LaidText, page: PageToDevice) -> Box | None:
+    """The box that the text must be clipped by, in fixed device units with its sides sorted.
+
+    It is None if there is none or all of the text lies in it.
 
     A box without an area clips all of the text.
 
@@ -46,7 +37,7 @@ def clip_box(record: TextRecord, laid: LaidText, page: PageToDevice) -> DeviceBo
     if not page.affine.is_straight():
         raise Fault(FaultName.ClipShape, "a turned box clips text")
     xs, ys = sorted(corner.x for corner in corners), sorted(corner.y for corner in corners)
-    return DeviceBox(xs[0], ys[0], xs[-1], ys[-1])
+    return Box(xs[0], ys[0], xs[-1], ys[-1])
 
 
 def _corners(box: Box, page: PageToDevice) -> Contour:
