@@ -1,7 +1,7 @@
 """Adobe's Symbol encoding, by names of glyphs.
 
-Fonts of the family Standard Symbols PS have Symbol's glyphs, but no character map of Windows' symbol encoding. Their map
-is marked as one of Unicode, and in some versions of the font it is, while others have this encoding in it.
+Fonts of the family Standard Symbols PS have Symbol's glyphs, but no character map of Windows' symbol encoding. Their
+map is marked as one of Unicode, and in some versions of the font it is, while others have this encoding in it.
 """
 
 ENCODED_FAMILY = "standard symbols ps"

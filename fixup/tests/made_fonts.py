@@ -1,7 +1,7 @@
 """Fonts made for tests: their glyphs are squares, so that texts can be worked out by hand.
 
-An em has 1,000 units, the cell reaches from 900 above to 300 below the baseline, the average width is 500. The underline's
-upper edge is 100 below, 50 thick; that of the strike-out 300 above, 60 thick.
+An em has 1,000 units, the cell reaches from 900 above to 300 below the baseline, the average width is 500. The
+underline's upper edge is 100 below, 50 thick; that of the strike-out 300 above, 60 thick.
 """
 
 from __future__ import annotations
@@ -132,6 +132,7 @@ def _add_metrics(builder: Any, made: MadeFont) -> None:
         yStrikeoutPosition=300,
         yStrikeoutSize=60,
     )
+    builder.font["head"].macStyle = bool(made.selection & 0x20) | bool(made.selection & 0x01) << 1
     builder.setupPost(underlinePosition=-100, underlineThickness=50)
     if made.is_symbol:
         for table in builder.font["cmap"].tables:

@@ -72,7 +72,10 @@ class Flattening(unittest.TestCase):
         self.assertEqual(flattened((contour,), 2), [[Point(0, 0), Point(8, 8), Point(16, 0)]])
 
     def test_points_of_a_cubic_lie_on_it(self) -> None:
-        """(0,0), (0,16), (16,16), (16,0) at 1/2 is (8, 12). Both second differences are (±16, -16), 23 long: 17.25 / n^2."""
+        """(0,0), (0,16), (16,16), (16,0) at 1/2 is (8, 12).
+
+        Both second differences are (±16, -16), 23 long: 17.25 / n^2.
+        """
         contour = GlyphContour(Point(0, 0), ((Point(0, 16), Point(16, 16), Point(16, 0)), (Point(0, 0),)))
         self.assertEqual(flattened((contour,), 5), [[Point(0, 0), Point(8, 12), Point(16, 0)]])
 

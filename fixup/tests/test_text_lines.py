@@ -125,7 +125,7 @@ class Escapement(MadeFolder):
         self.assertEqual(second.y, 100 * ONE)
 
     def test_distances_on_a_stretched_page(self) -> None:
-        """Up the page by 60 units is 30 device units; the em is 50, so the letter is 25 wide, and it isn't stretched."""
+        """Up the page by 60 units is 30 device units; the em is 50, so the letter is 25 wide and as high."""
         page = page_of(Point(100, 100), Point(200, 50))
         case = Case().on(page).of("AA").with_record(distances_x=(60, 0)).with_font(escapement=900)
         self.assertEqual(boxes(lay(self.layer, case).glyphs), [(175, 75, 200, 100), (175, 45, 200, 70)])

@@ -49,15 +49,15 @@ class Case:
 
     def with_font(self, **changes: object) -> Case:
         """The same with another font."""
-        return replace(self, font=replace(self.font, **changes))  # type: ignore[arg-type]
+        return replace(self, font=replace(self.font, **changes))
 
     def with_settings(self, **changes: object) -> Case:
         """The same with other settings."""
-        return replace(self, settings=replace(self.settings, **changes))  # type: ignore[arg-type]
+        return replace(self, settings=replace(self.settings, **changes))
 
     def with_record(self, **changes: object) -> Case:
         """The same with another record."""
-        return replace(self, record=replace(self.record, **changes))  # type: ignore[arg-type]
+        return replace(self, record=replace(self.record, **changes))
 
     def on(self, page: PageToDevice) -> Case:
         """The same on another page."""
