@@ -10,6 +10,7 @@ import freetype  # type: ignore[import]
 from .faults import Fault, FaultName
 
 _LOAD_FLAGS = freetype.FT_LOAD_NO_SCALE | freetype.FT_LOAD_NO_HINTING | freetype.FT_LOAD_NO_BITMAP
+_PART_FLAGS = _LOAD_FLAGS | freetype.FT_LOAD_NO_RECURSE
 _OUTLINE_FORMAT = freetype.FT_GLYPH_FORMAT_OUTLINE
 _LONGEST_TABLE = 1 << 16
 _MOST_NAMES = 4096
@@ -42,7 +43,7 @@ class Face:
 
         `source` is a path, or an object that reads the file's bytes. `label` names the font in faults.
         """
-        self._label = label
+        self.label = label
         try:
             self._face = freetype.Face(source, index)
         except (freetype.FT_Exception, OSError, ValueError) as error:
@@ -108,13 +109,19 @@ class Face:
         """The glyph with this name, or 0."""
         return int(self._face.get_name_index(name.encode("ascii")))
 
+    def parts(self, index: int, most_parts: int) -> list[int]:
+        """The glyphs that a glyph is put together from, at most so many; none if it has an outline of its own."""
+        slot = self._loaded(index, _PART_FLAGS)
+        if slot.contents.format != freetype.FT_GLYPH_FORMAT_COMPOSITE:
+            return []
+        count = int(slot.contents.num_subglyphs)
+        if count > most_parts:
+            raise self._bad(f"glyph {index} has more than {most_parts} parts")
+        return [self._part(slot, number) for number in range(count)]
+
     def glyph(self, index: int, most_points: int) -> RawGlyph:
         """A glyph's outline, unscaled and unhinted, of at most so many points. A bitmap has no contours."""
-        try:
-            self._face.load_glyph(index, _LOAD_FLAGS)
-        except freetype.FT_Exception as error:
-            raise self._bad(f"glyph {index} can't be read") from error
-        slot = self._face._FT_Face.contents.glyph.contents
+        slot = self._loaded(index, _LOAD_FLAGS).contents
         advance = int(slot.metrics.horiAdvance)
         outline = slot.outline
         points, contours = outline.n_points, outline.n_contours
@@ -126,5 +133,21 @@ class Face:
         ends = ctypes.cast(outline.contours, ctypes.POINTER(ctypes.c_short * contours)).contents[:]
         return RawGlyph(advance, coordinates, ctypes.string_at(outline.tags, points), ends)
 
+    def _loaded(self, index: int, flags: int) -> Any:
+        """The pointer to the slot of a glyph that has just been loaded."""
+        try:
+            self._face.load_glyph(index, flags)
+        except freetype.FT_Exception as error:
+            raise self._bad(f"glyph {index} can't be read") from error
+        return self._face._FT_Face.contents.glyph
+
+    def _part(self, slot: Any, number: int) -> int:
+        index, flags, first, second = ctypes.c_int(), ctypes.c_uint(), ctypes.c_int(), ctypes.c_int()
+        matrix = freetype.FT_Matrix()
+        numbers = [ctypes.byref(value) for value in (index, flags, first, second, matrix)]
+        if freetype.FT_Get_SubGlyph_Info(slot, number, *numbers):
+            raise self._bad("a part of a glyph can't be read")
+        return index.value
+
     def _bad(self, detail: str) -> Fault:
-        return Fault(FaultName.BadFont, f"{self._label}: {detail}")
+        return Fault(FaultName.BadFont, f"{self.label}: {detail}")

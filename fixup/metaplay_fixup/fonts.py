@@ -9,6 +9,7 @@ from io import BytesIO
 from .adobe_symbol import ENCODED_FAMILY, SYMBOL_NAMES
 from .catalogue import LONGEST_FONT, FontFile
 from .charsets import SYMBOL_BASE
+from .composites import check_parts
 from .faces import Face
 from .faults import Fault, FaultName
 from .outlines import GlyphOutline, outline_of
@@ -70,6 +71,7 @@ class Font:
     def outline(self, glyph: int) -> GlyphOutline:
         """The outline of a glyph, with at most MOST_POINTS points."""
         if glyph not in self._outlines:
+            check_parts(self._face, glyph)
             self._outlines[glyph] = outline_of(self._face.glyph(glyph, MOST_POINTS))
         return self._outlines[glyph]
 

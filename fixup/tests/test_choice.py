@@ -154,12 +154,10 @@ class Choices(MadeFamilies):
 class Fallbacks(MadeFamilies):
     """Glyphs that a font hasn't, and made slants, as outlines."""
 
-    def lay(
-        self, text: str, fallbacks: Iterable[str], **changes: object
-    ) -> tuple[list[tuple[float, ...]], tuple[str, ...]]:
+    def lay(self, text: str, fallbacks: Iterable[str]) -> tuple[list[tuple[float, ...]], tuple[str, ...]]:
         """The boxes of a text's glyphs, and the families that stood in."""
         layer = FontLayer(FontChooser(self.catalogue, FontRules(fallbacks=tuple(fallbacks))), TOLERANCE)
-        laid = lay(layer, Case().of(text).with_font(face="Plain", **changes))
+        laid = lay(layer, Case().of(text).with_font(face="Plain"))
         return [tuple(map(float, found)) for found in boxes(laid.glyphs)], laid.note.fallbacks
 
     def test_first_family_that_has_the_glyph(self) -> None:
@@ -185,7 +183,7 @@ class Fallbacks(MadeFamilies):
         self.assertEqual(second[start:] + second[:start], first)
 
     def test_a_made_slant(self) -> None:
-        """x moves by 0x366A / 65536 of y: by 50 * 13930 / 65536 units at the letter's top, which is 11,144,000 / 2^20."""
+        """x moves by 0x366A / 65536 of y: by 50 * 13930 / 65536 units at the top, which is 11,144,000 / 2^20."""
         layer = FontLayer(FontChooser(self.catalogue, FontRules()), TOLERANCE)
         laid = lay(layer, Case().with_font(face="Plain", italic=True))
         left = 100 << 20

@@ -84,7 +84,7 @@ class AllGlyphs(unittest.TestCase):
             )
 
     def test_flattened_areas(self) -> None:
-        """A chord is off by at most the tolerance, so that the area is off by less than that along the outline's length."""
+        """A chord is off by at most the tolerance of 4, and its ends are rounded: 5 for each unit of the length at most."""
         path = FONTS / PATHS[0]
         font = Font(FontFile(path, 0, path.stem, "", False, False))
         for index in range(36, 62):
