@@ -53,6 +53,7 @@ class FontChooser:
         self._maps = {face.lower(): family for face, family in rules.maps.items()}
         self._rules = rules
         self._fonts: dict[FontFile, Font] = {}
+        self._chosen: dict[LogicalFont, ChosenFont] = {}
 
     def choose(self, request: LogicalFont) -> ChosenFont:
         """The font for a face, by --map, by its own name, by the table, by --instead.
@@ -60,6 +61,11 @@ class FontChooser:
         Raises Fault with MissingFont if there is none or it has no bold, with BadFont or EmbeddingNotAllowed if it
         can't be used.
         """
+        if request not in self._chosen:
+            self._chosen[request] = self._found(request)
+        return self._chosen[request]
+
+    def _found(self, request: LogicalFont) -> ChosenFont:
         style = _Style(request.weight > _BOLD_WEIGHT, request.italic)
         for candidate in self._candidates(request):
             files = self._catalogue.named(candidate.family)

@@ -12,8 +12,8 @@ MOST_PARTS = 1_000
 def check_parts(face: Face, glyph: int) -> None:
     """Raises Fault with BadFont if a glyph has more than MOST_PARTS parts.
 
-    FreeType has no such limit. Given a small font in which each glyph is the one before twice, it takes gigabytes before it
-    gives up.
+    FreeType has no such limit. Given a small font in which each glyph is the one before twice, it takes gigabytes
+    before it gives up.
     """
     waiting = [glyph]
     count = 0

@@ -167,7 +167,7 @@ def _times(vector: Point, ratio: tuple[int, int]) -> Point:
 
 
 def _moved(contour: Contour, x: int, y: int) -> Contour:
-    return [Point(point.x + x, point.y + y) for point in contour]
+    return [Point(left + x, top + y) for left, top in contour]
 
 
 def _page_length(line: Line, settings: TextSettings) -> tuple[int, int]:

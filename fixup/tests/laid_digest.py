@@ -20,7 +20,7 @@ PAGES = (page_of(), page_of(Point(97, -31), Point(55, 13)), page_of(world=Affine
 
 
 def main() -> None:
-    """Lays out a text in each face, on each page, turned, and prints the digest of all contours, positions and notes."""
+    """Lays out a turned text in each face, on each page, and prints the digest of contours, positions and notes."""
     rules = FontRules(instead="DejaVu Serif", fallbacks=("DejaVu Sans Mono", "Nimbus Roman"))
     layer = FontLayer(FontChooser(Catalogue.of_folders(FOLDERS), rules), TOLERANCE)
     digest = hashlib.sha256()

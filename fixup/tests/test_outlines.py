@@ -84,7 +84,9 @@ class AllGlyphs(unittest.TestCase):
             )
 
     def test_flattened_areas(self) -> None:
-        """A chord is off by at most the tolerance of 4, and its ends are rounded: 5 for each unit of the length at most."""
+        """A chord is off by at most the tolerance of 4, and its ends are rounded: 5 at most for a unit of length.
+
+        """
         path = FONTS / PATHS[0]
         font = Font(FontFile(path, 0, path.stem, "", False, False))
         for index in range(36, 62):
