@@ -22,7 +22,10 @@ Contour = list[Point]
 
 @dataclass(frozen=True, slots=True)
 class Affine:
-    """X = (a x + c y + e) / denominator, Y = (b x + d y + f) / denominator. The denominator is above 0, and nothing divides all seven."""
+    """X = (a x + c y + e) / denominator, Y = (b x + d y + f) / denominator.
+
+    The denominator is above 0, and nothing divides all seven.
+    """
 
     a: int
     b: int
@@ -51,11 +54,15 @@ class Affine:
         y = self.b * point.x + self.d * point.y + self.f * parts
         return Point(of_ratio(x, self.denominator * parts), of_ratio(y, self.denominator * parts))
 
-    def apply_vector(self, vector: Point) -> Point:
-        """What a vector of whole page units becomes, in fixed device units: the move doesn't count."""
+    def apply_vector_part(self, vector: Point, parts: int) -> Point:
+        """What a vector becomes whose numbers count so many parts of a page unit: the move doesn't count."""
         x = self.a * vector.x + self.c * vector.y
         y = self.b * vector.x + self.d * vector.y
-        return Point(of_ratio(x, self.denominator), of_ratio(y, self.denominator))
+        return Point(of_ratio(x, self.denominator * parts), of_ratio(y, self.denominator * parts))
+
+    def apply_vector(self, vector: Point) -> Point:
+        """What a vector of whole page units becomes, in fixed device units: the move doesn't count."""
+        return self.apply_vector_part(vector, 1)
 
     def then(self, other: Affine) -> Affine:
         """This transform first, and the other after it."""

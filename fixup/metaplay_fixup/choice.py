@@ -65,6 +65,10 @@ class FontChooser:
             self._chosen[request] = self._found(request)
         return self._chosen[request]
 
+    def opened(self) -> tuple[Font, ...]:
+        """The fonts that were opened so far, in that order."""
+        return tuple(self._fonts.values())
+
     def _found(self, request: LogicalFont) -> ChosenFont:
         style = _Style(request.weight > _BOLD_WEIGHT, request.italic)
         for candidate in self._candidates(request):

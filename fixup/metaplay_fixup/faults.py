@@ -4,7 +4,10 @@ from enum import Enum
 
 
 class FaultName(Enum):
-    """The name of a fault. The first group is the fix-up's own; the others are those of the checker (docs/FAULTS.md)."""
+    """The name of a fault.
+
+    The first group is the fix-up's own; the others are those of the checker (docs/FAULTS.md).
+    """
 
     MissingFont = "MissingFont"
     MissingGlyph = "MissingGlyph"
@@ -56,8 +59,8 @@ class FaultName(Enum):
 class Fault(Exception):
     """A file can't be converted.
 
-    `detail` says what is wrong in a few words, or is empty. `record` is the number of the record, counted as `metaplay list` does, or
-    None if the fault isn't one of a record.
+    `detail` says what is wrong in a few words, or is empty. `record` is the number of the record, counted as `metaplay
+    list` does, or None if the fault isn't one of a record.
     """
 
     def __init__(self, name: FaultName, detail: str = "", record: int | None = None) -> None:

@@ -38,7 +38,7 @@ def chords_of_cubic(piece: tuple[Point, Point, Point, Point], tolerance: int) ->
 def flattened(contours: tuple[GlyphContour, ...], tolerance: int) -> list[Contour]:
     """Polygons within the tolerance of the contours, in the same units, but for those of fewer than three points.
 
-    Raises Fault with BadFont if there are more than MOST_FLAT_POINTS.
+    Raises Fault with TooManyEdges if there are more than MOST_FLAT_POINTS.
     """
     polygons: list[Contour] = []
     total = 0
@@ -61,7 +61,7 @@ def _polygon(contour: GlyphContour, tolerance: int) -> Contour:
 
 def _check_count(points: int) -> None:
     if points > MOST_FLAT_POINTS:
-        raise Fault(FaultName.BadFont, f"a glyph has more than {MOST_FLAT_POINTS} points when it is flattened")
+        raise Fault(FaultName.TooManyEdges, f"a glyph has more than {MOST_FLAT_POINTS} points")
 
 
 def _chord_ends(start: Point, piece: Piece, tolerance: int) -> list[Point]:

@@ -72,7 +72,7 @@ class Font:
         """The outline of a glyph, with at most MOST_POINTS points."""
         if glyph not in self._outlines:
             check_parts(self._face, glyph)
-            self._outlines[glyph] = outline_of(self._face.glyph(glyph, MOST_POINTS))
+            self._outlines[glyph] = outline_of(self._face.glyph(glyph, MOST_POINTS), self._face.label)
         return self._outlines[glyph]
 
     def _found_glyph(self, code: int) -> int:

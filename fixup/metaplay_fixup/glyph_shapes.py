@@ -35,9 +35,10 @@ class ShapeCache:
         self._points = 0
 
     def shape(self, font: Font, glyph: int, axes: Axes) -> list[Contour]:
-        """The polygons of a glyph around its origin, in fixed device units. Raises Fault with BadFont.
+        """The polygons of a glyph around its origin, in fixed device units.
 
-        All run the way of TrueType's, so that glyphs of several fonts can overlap.
+        All run the way of TrueType's, so that glyphs of several fonts can overlap. Raises Fault with BadFont or
+        TooManyEdges.
         """
         key = (font, glyph, axes)
         if key not in self._kept:

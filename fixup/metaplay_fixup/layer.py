@@ -29,6 +29,10 @@ from .text import (
 )
 
 
+MOST_CHARACTERS = 1 << 20
+"""A text has at most so many characters."""
+
+
 class FontLayer:
     """Lays out texts with the fonts of a chooser. It is a TextLayer."""
 
@@ -66,6 +70,8 @@ class FontLayer:
         """The characters, without the zeros that some programs count with the string."""
         if record.options & GLYPH_INDEXES and record.codes:
             raise Fault(FaultName.GlyphIndexes, font.face)
+        if len(record.codes) > MOST_CHARACTERS:
+            raise Fault(FaultName.TooManyEdges, f"a text has more than {MOST_CHARACTERS} characters")
         xs, ys = record.distances_x, record.distances_y
         if isinstance(record.codes, bytes):
             return from_bytes(record.codes.rstrip(b"\0"), font.charset, self._code_page, xs, ys)
@@ -95,6 +101,7 @@ class FontLayer:
             code_page=characters.code_page,
             own_widths=characters.distances_x is None,
             fallbacks=tuple(used),
+            permission=chosen.font.permission,
         )
 
 

@@ -86,15 +86,17 @@ def frame_of(font: LogicalFont, metrics: FontMetrics, page: PageToDevice, graphi
     """The vectors of a text. Raises Fault with OffPlane if its em is larger than MOST_UNITS, or the page has no width.
 
     In the compatible mode glyphs keep their shape where the page is stretched: the height decides, and a width, if it
-    is given, along the line. In the advanced mode, and under a world transform, the whole text is transformed, and the
-    orientation may turn its characters against the line.
+    is given, along the line. In the advanced mode, and under a world transform, the whole text is transformed. In the
+    advanced mode the orientation may turn characters against the line.
     """
     height = height_scale(font, metrics)
     width = width_scale(font, metrics)
     if graphics_mode == COMPATIBLE and page.world_is_identity:
         frame = _compatible(font, page, height, width)
     else:
-        frame = _advanced(font, page, height, width or height)
+        tenths = font.escapement if graphics_mode == COMPATIBLE else font.orientation
+        lines = direction_of(font.escapement, page), direction_of(tenths, page)
+        frame = _advanced(lines, page, height, width or height)
     largest = max(abs(part) for part in (*frame.glyph_x, *frame.glyph_y, *frame.advance, *frame.rise))
     if largest * metrics.units_per_em > MOST_UNITS << VECTOR_BITS or not any(frame.distance_along):
         raise Fault(FaultName.OffPlane, "the font is too large, or the page too small")
@@ -119,9 +121,9 @@ def _compatible(font: LogicalFont, page: PageToDevice, height: Ratio, width: Rat
     )
 
 
-def _advanced(font: LogicalFont, page: PageToDevice, height: Ratio, width: Ratio) -> Frame:
-    line = direction_of(font.escapement, page)
-    character = direction_of(font.orientation, page)
+def _advanced(directions: tuple[Direction, Direction], page: PageToDevice, height: Ratio, width: Ratio) -> Frame:
+    """The vectors for the direction of the line and that of its characters."""
+    line, character = directions
     one = Ratio(1, 1)
     return Frame(
         distance_along=_on_device(line.along, page, one),

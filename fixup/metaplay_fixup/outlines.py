@@ -34,16 +34,19 @@ class GlyphOutline:
     contours: tuple[GlyphContour, ...]
 
 
-def outline_of(glyph: RawGlyph) -> GlyphOutline:
-    """The outline of a glyph as FreeType reads it. Raises Fault with BadFont if it isn't an outline."""
+def outline_of(glyph: RawGlyph, label: str) -> GlyphOutline:
+    """The outline of a glyph as FreeType reads it. Raises Fault with BadFont, and the font's label, if it isn't one."""
     xs, ys = glyph.coordinates[::2], glyph.coordinates[1::2]
     points = [Point(2 * x, 2 * y) for x, y in zip(xs, ys)]
     contours, first = [], 0
     for last in glyph.ends:
         if not first <= last < len(points):
-            raise Fault(FaultName.BadFont, "a contour ends outside of its glyph")
+            raise Fault(FaultName.BadFont, f"{label}: a contour ends outside of its glyph")
         end = last + 1
-        contours.append(_contour(points[first:end], glyph.tags[first:end]))
+        contour = _contour(points[first:end], glyph.tags[first:end])
+        if any(len(piece) > 3 for piece in contour.pieces):
+            raise Fault(FaultName.BadFont, f"{label}: a curve has more than two control points")
+        contours.append(contour)
         first = end
     return GlyphOutline(glyph.advance, tuple(contours))
 
@@ -65,8 +68,6 @@ def _contour(points: list[Point], tags: bytes) -> GlyphContour:
         else:
             pieces.append((*controls, _middle(controls[0], point)))
             controls = [point]
-    if any(len(piece) > 3 for piece in pieces):
-        raise Fault(FaultName.BadFont, "a curve has more than two control points")
     return GlyphContour(points[0], tuple(pieces))
 
 

@@ -140,7 +140,8 @@ class Note:
     `font` is the family, `style` its style, `sha256` the digest of its file in hexadecimal, all empty if no font was
     opened. `made_slant`: the family has no italic, so its upright glyphs were slanted. `code_page` is the one that
     bytes were read by, or None. `own_widths`: the record has no distances, so the font's widths were taken.
-    `fallbacks` are the families that gave glyphs which the font hasn't.
+    `fallbacks` are the families that gave glyphs which the font hasn't. `permission` is the font's fsType
+    ([OpenType] OS/2), or None if no font was opened.
     """
 
     face: str
@@ -153,6 +154,7 @@ class Note:
     code_page: str | None = None
     own_widths: bool = False
     fallbacks: tuple[str, ...] = ()
+    permission: int | None = None
 
 
 @dataclass(frozen=True, slots=True)

@@ -86,6 +86,16 @@ class Utf16(unittest.TestCase):
         self.assertEqual(from_utf16((0xDC00, 0xD835, 0x41), None, None).codes, (0xDC00, 0xD835, 0x41))
 
 
+class SupplementaryPlanes(MadeFolder):
+    """A font with a character beyond FFFF."""
+
+    made = (MadeFont(characters={0x41: B, 0x1D400: A}),)
+
+    def test_surrogates_find_their_glyph(self) -> None:
+        laid = lay(self.layer, Case().with_record(codes=(0xD835, 0xDC00)))
+        self.assertEqual((boxes(laid.glyphs), laid.note.text), ([(100, 150, 150, 200)], "\U0001d400"))
+
+
 class SymbolFonts(MadeFolder):
     """A font with a character map of symbols, at F041 and F042."""
 

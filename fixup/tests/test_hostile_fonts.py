@@ -77,6 +77,12 @@ class Bombs(Hostile):
         point_bomb(self.folder / "bomb.ttf", 4000)
         self.assertIsNone(self.fault("A"))
 
+    def test_points_of_a_text(self) -> None:
+        """52 letters of 20,000 points have 1,040,000, one more has more than 1,048,576."""
+        point_bomb(self.folder / "bomb.ttf", 4000)
+        self.assertIsNone(self.fault("A" * 52))
+        self.assertEqual(str(self.fault("A" * 53)), "TooManyEdges (a text has more than 1048576 points)")
+
     def test_subroutines(self) -> None:
         subroutine_bomb(self.folder / "bomb.otf")
         self.assert_bad_font("A", "bomb.otf: glyph 1 can't be read")

@@ -88,7 +88,7 @@ class Flattening(unittest.TestCase):
         contour = GlyphContour(Point(0, 0), (bend,) * 1025)
         with self.assertRaises(Fault) as caught:
             flattened((contour,), 1)
-        self.assertIs(caught.exception.name, FaultName.BadFont)
+        self.assertIs(caught.exception.name, FaultName.TooManyEdges)
 
 
 if __name__ == "__main__":

@@ -84,9 +84,7 @@ class AllGlyphs(unittest.TestCase):
             )
 
     def test_flattened_areas(self) -> None:
-        """A chord is off by at most the tolerance of 4, and its ends are rounded: 5 at most for a unit of length.
-
-        """
+        """A chord is off by at most the tolerance of 4, and its ends are rounded: 5 at most for a unit of length."""
         path = FONTS / PATHS[0]
         font = Font(FontFile(path, 0, path.stem, "", False, False))
         for index in range(36, 62):
@@ -104,7 +102,7 @@ class Contours(unittest.TestCase):
         """The contours of points x, y with a tag."""
         coordinates = [number for x, y, _ in points for number in (x, y)]
         tags = bytes(tag for _, _, tag in points)
-        return outline_of(RawGlyph(0, coordinates, tags, [len(points) - 1])).contours
+        return outline_of(RawGlyph(0, coordinates, tags, [len(points) - 1]), "font").contours
 
     def test_lines(self) -> None:
         found = self.contours((0, 0, ON), (0, 5, ON), (5, 5, ON))
@@ -146,7 +144,7 @@ class Contours(unittest.TestCase):
         )
         for glyph in glyphs:
             with self.assertRaises(Fault) as caught:
-                outline_of(glyph)
+                outline_of(glyph, "font")
             self.assertIs(caught.exception.name, FaultName.BadFont)
 
 

@@ -2,9 +2,14 @@
 
 from __future__ import annotations
 
+import hashlib
+
 from metaplay_fixup.affine import Affine, Point
+from metaplay_fixup.catalogue import Catalogue
+from metaplay_fixup.choice import FontChooser, FontRules
 from metaplay_fixup.faults import Fault, FaultName
 from metaplay_fixup.fixed import ONE
+from metaplay_fixup.layer import MOST_CHARACTERS, FontLayer
 from metaplay_fixup.text import (
     BASELINE,
     CLIPPED_BOX,
@@ -158,6 +163,10 @@ class Rejections(MadeFolder):
     def test_visible_character_without_an_outline(self) -> None:
         self.assert_fault(Case().of("AB"), "MissingGlyph (U+0042 in Squares has no outline)")
 
+    def test_too_many_characters(self) -> None:
+        case = Case().with_record(codes=(0x41,) * (MOST_CHARACTERS + 1))
+        self.assert_fault(case, "TooManyEdges (a text has more than 1048576 characters)")
+
     def test_half_a_surrogate(self) -> None:
         self.assert_fault(Case().with_record(codes=(0xD800, 0x41)), "MissingGlyph (U+D800 in Squares)")
 
@@ -210,6 +219,16 @@ class Notes(MadeFolder):
 
     def test_note_of_a_blank_text(self) -> None:
         self.assertEqual(lay(self.layer, Case().of(" ")).note, Note("Squares", "", Choice.NONE, " "))
+
+    def test_fonts_that_were_opened(self) -> None:
+        chooser = FontChooser(Catalogue.of_folders([self.folder]), FontRules())
+        layer = FontLayer(chooser, ONE)
+        self.assertEqual(chooser.opened(), ())
+        note = lay(layer, Case()).note
+        found = [(font.file.family, font.sha256, font.permission) for font in chooser.opened()]
+        self.assertEqual(found, [("Squares", note.sha256, 0)])
+        digest = hashlib.sha256((self.folder / "font00.ttf").read_bytes()).hexdigest()
+        self.assertEqual((note.sha256, note.permission), (digest, 0))
 
     def test_soft_hyphen_is_a_hyphen(self) -> None:
         self.assertEqual(boxes(lay(self.layer, Case().of("\u00ad")).glyphs), [(100, 180, 120, 200)])

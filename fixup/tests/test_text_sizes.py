@@ -106,6 +106,12 @@ class Pages(MadeFolder):
         case = Case().on(page_of(world=Affine(0, 1, -1, 0, 0, 0)))
         self.assert_boxes(case, (-200, 100, -150, 150))
 
+    def test_orientation_under_a_world_counts_in_the_advanced_mode_alone(self) -> None:
+        """The world moves text by (1000, 0). The line runs up; its characters turn with it, or are upright."""
+        case = Case().on(page_of(world=Affine(1, 0, 0, 1, 1000, 0))).with_font(escapement=900, orientation=0)
+        self.assert_boxes(case, (1050, 150, 1100, 200))
+        self.assert_boxes(case.with_record(graphics_mode=ADVANCED), (1100, 150, 1150, 200))
+
     def test_a_world_mirrors_text(self) -> None:
         case = Case().on(page_of(world=Affine(-1, 0, 0, 1, 300, 0))).with_record(graphics_mode=ADVANCED)
         self.assert_boxes(case, (150, 150, 200, 200))
