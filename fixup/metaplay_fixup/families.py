@@ -9,14 +9,12 @@ _NARROW = ("liberation sans narrow", "nimbus sans narrow")
 
 _EQUAL_WIDTHS: dict[str, tuple[str, ...]] = {
     "arial": _SANS,
-    "helvetica": _SANS,
     "liberation sans": _SANS,
     "nimbus sans": _SANS,
     "arial narrow": _NARROW,
     "helvetica narrow": _NARROW,
     "liberation sans narrow": _NARROW,
     "times new roman": _SERIF,
-    "times": _SERIF,
     "liberation serif": _SERIF,
     "nimbus roman": _SERIF,
     "courier new": _MONO,
@@ -28,7 +26,8 @@ _EQUAL_WIDTHS: dict[str, tuple[str, ...]] = {
     "symbol": ("standard symbols ps",),
 }
 
-# Windows lists these in its registry (FontSubstitutes): the family, whose characters the charset picks.
+# Windows lists these substitutes in its registry (FontSubstitutes).
+_SUBSTITUTES = {"helvetica": "arial", "times": "times new roman"}
 _SCRIPT_ENDINGS = (" baltic", " ce", " cyr", " greek", " tur")
 _SCRIPT_FAMILIES = ("arial", "courier new", "times new roman")
 
@@ -58,10 +57,17 @@ SYMBOL_FACES = frozenset(
 """Faces in small letters that have signs where other fonts have letters, so that no other family can stand in."""
 
 
-def equal_families(face: str) -> tuple[str, ...]:
-    """The families, in small letters and in order, whose advances equal those of the face in small letters."""
+def substituted(face: str) -> str:
+    """The face that Windows takes for another, such as Arial for Arial CE, both in small letters."""
     for ending in _SCRIPT_ENDINGS:
         family = face.removesuffix(ending)
         if family != face and family in _SCRIPT_FAMILIES:
-            return (family,) + _EQUAL_WIDTHS[family]
-    return _EQUAL_WIDTHS.get(face, ())
+            return family
+    return _SUBSTITUTES.get(face, face)
+
+
+def equal_families(face: str) -> tuple[str, ...]:
+    """The families, in small letters and in order, whose advances equal those of the face in small letters."""
+    family = substituted(face)
+    families = _EQUAL_WIDTHS.get(family, ())
+    return families if family == face else (family, *families)

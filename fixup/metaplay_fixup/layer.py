@@ -6,6 +6,7 @@ from __future__ import annotations
 from .affine import Contour, Point
 from .charsets import Characters, from_bytes, from_utf16
 from .choice import FontChooser
+from .face_metrics import metrics_of_face
 from .faults import Fault, FaultName
 from .fonts import FontMetrics
 from .glyphs import Glyph, check_scripts, glyphs_of
@@ -83,7 +84,7 @@ class FontLayer:
     def _line(self, characters: Characters, record: TextRecord, font: LogicalFont, page: PageToDevice) -> Line:
         has_distances = characters.distances_x is not None
         glyphs = glyphs_of(characters.codes, font, self._chooser, has_distances)
-        metrics = self._chooser.choose(font).font.metrics
+        metrics = metrics_of_face(font, self._chooser.choose(font))
         frame = frame_of(font, metrics, page, record.graphics_mode)
         return Line(glyphs, characters.distances_x, characters.distances_y, metrics, frame)
 
