@@ -32,6 +32,11 @@ class FontFile:
     is_bold: bool
     is_italic: bool
 
+    @property
+    def label(self) -> str:
+        """The file's name for faults. What isn't UTF-8 in it is a question mark."""
+        return label_of(self.path)
+
 
 @dataclass(slots=True)
 class Catalogue:
@@ -46,9 +51,8 @@ class Catalogue:
         A file that isn't a font, or is damaged, isn't in the catalogue.
         """
         catalogue = Catalogue()
-        for folder in folders:
-            for path in _font_paths(folder):
-                catalogue._add_file(path)
+        for path in (path for folder in folders for path in _font_paths(folder)):
+            catalogue._add_file(path)
         return catalogue
 
     def named(self, name: str) -> tuple[FontFile, ...]:
@@ -60,7 +64,7 @@ class Catalogue:
         index, count = 0, 1
         try:
             while index < min(count, _MOST_FACES):
-                face = Face(str(path), index, path.name)
+                face = Face(str(path), index, label_of(path))
                 count = face.count
                 self._add_face(path, index, face)
                 index += 1
@@ -75,6 +79,11 @@ class Catalogue:
         keys = {text.lower() for number in (_FAMILY_NAME, _FULL_NAME) for text in _texts(names, number)}
         for key in sorted(keys):
             self._by_name.setdefault(key, []).append(font)
+
+
+def label_of(path: Path) -> str:
+    """The name of a file. What isn't UTF-8 in it is a question mark."""
+    return path.name.encode("utf-8", "replace").decode("utf-8")
 
 
 def _font_paths(folder: Path) -> list[Path]:

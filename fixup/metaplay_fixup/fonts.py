@@ -49,7 +49,7 @@ class Font:
         data = _bytes_of(file)
         self.file = file
         self.sha256 = hashlib.sha256(data).hexdigest()
-        self._face = Face(BytesIO(data), file.index, file.path.name)
+        self._face = Face(BytesIO(data), file.index, file.label)
         os2 = self._face.table("OS/2")
         self.permission = int.from_bytes(os2[8:10], "big")
         if self.permission & _USAGE == _RESTRICTED or self.permission & _BITMAPS_ONLY:
@@ -93,9 +93,9 @@ def _bytes_of(file: FontFile) -> bytes:
         with open(file.path, "rb") as stream:
             data = stream.read(LONGEST_FONT + 1)
     except OSError as error:
-        raise Fault(FaultName.BadFont, f"{file.path.name}: it can't be read") from error
+        raise Fault(FaultName.BadFont, f"{file.label}: it can't be read") from error
     if len(data) > LONGEST_FONT:
-        raise Fault(FaultName.BadFont, f"{file.path.name}: it has more than {LONGEST_FONT} bytes")
+        raise Fault(FaultName.BadFont, f"{file.label}: it has more than {LONGEST_FONT} bytes")
     return data
 
 
@@ -103,7 +103,7 @@ def _metrics(face: Face, os2: bytes, file: FontFile) -> FontMetrics:
     """The metrics. Raises Fault with BadFont if a table is cut, or the em or the height isn't one."""
     post = face.table("post")
     if len(os2) < 78 or len(post) < 12:
-        raise Fault(FaultName.BadFont, f"{file.path.name}: a table is cut")
+        raise Fault(FaultName.BadFont, f"{file.label}: a table is cut")
     metrics = FontMetrics(
         units_per_em=face.units_per_em,
         ascent=int.from_bytes(os2[74:76], "big"),
@@ -115,7 +115,7 @@ def _metrics(face: Face, os2: bytes, file: FontFile) -> FontMetrics:
         strike_out_size=_signed(os2, 26),
     )
     if not 16 <= metrics.units_per_em <= 16384 or metrics.ascent + metrics.descent == 0:
-        raise Fault(FaultName.BadFont, f"{file.path.name}: its em or its height is wrong")
+        raise Fault(FaultName.BadFont, f"{file.label}: its em or its height is wrong")
     return metrics
 
 

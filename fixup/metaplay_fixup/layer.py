@@ -50,7 +50,7 @@ class FontLayer:
         """The contours of a text.
 
         Raises Fault: GlyphIndexes, ComplexScript, MissingFont, MissingGlyph, EmbeddingNotAllowed, BadFont; OffPlane if
-        the text is too large or too far away; TooManyEdges if it has too many points.
+        the font is too large; TooManyEdges if the text has too many characters or points. Contours may lie anywhere.
         """
         characters = self._characters(record, font)
         if _draws_nothing(characters.codes, record, font, settings):

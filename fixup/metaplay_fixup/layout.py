@@ -68,14 +68,15 @@ def glyph_contours(text: Laid, shapes: ShapeCache) -> list[Contour]:
     """The contours of all glyphs. Raises Fault with TooManyEdges if they have more than MOST_POINTS points."""
     contours: list[Contour] = []
     points = 0
-    x, y = text.origin
+    origin = text.origin
     for glyph, step in zip(text.line.glyphs, text.steps):
-        for contour in _shape(glyph, text.line, shapes):
-            points += len(contour)
-            contours.append(_moved(contour, (x + _HALF) >> _SHIFT, (y + _HALF) >> _SHIFT))
+        shape = _shape(glyph, text.line, shapes)
+        points += sum(map(len, shape))
         if points > MOST_POINTS:
             raise Fault(FaultName.TooManyEdges, f"a text has more than {MOST_POINTS} points")
-        x, y = x + step.x, y + step.y
+        start = _rounded(origin)
+        contours += [_moved(contour, start) for contour in shape]
+        origin = Point(origin.x + step.x, origin.y + step.y)
     return contours
 
 
@@ -88,7 +89,7 @@ def band(text: Laid, low: int, high: int) -> Contour:
     corners = ((0, high), (1, high), (1, low), (0, low))
     xs = [origin.x + part * total.x + height * rise.x for part, height in corners]
     ys = [origin.y + part * total.y + height * rise.y for part, height in corners]
-    return [Point((x + _HALF) >> _SHIFT, (y + _HALF) >> _SHIFT) for x, y in zip(xs, ys)]
+    return [_rounded(Point(x, y)) for x, y in zip(xs, ys)]
 
 
 def moved_position(text: Laid, settings: TextSettings, reference: Point, direction: Direction) -> Point | None:
@@ -166,7 +167,13 @@ def _times(vector: Point, ratio: tuple[int, int]) -> Point:
     return Point(rounded_quotient(vector.x * ratio[0], ratio[1]), rounded_quotient(vector.y * ratio[0], ratio[1]))
 
 
-def _moved(contour: Contour, x: int, y: int) -> Contour:
+def _rounded(vector: Point) -> Point:
+    """A vector in units of 2^-60 in fixed device units; a half is rounded up."""
+    return Point((vector.x + _HALF) >> _SHIFT, (vector.y + _HALF) >> _SHIFT)
+
+
+def _moved(contour: Contour, start: Point) -> Contour:
+    x, y = start
     return [Point(left + x, top + y) for left, top in contour]
 
 

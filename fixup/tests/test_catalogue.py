@@ -2,6 +2,7 @@
 
 from __future__ import annotations
 
+import os
 import tempfile
 import unittest
 from pathlib import Path
@@ -9,6 +10,7 @@ from pathlib import Path
 from fontTools.ttLib import TTCollection, TTFont  # type: ignore[import]
 
 from metaplay_fixup.catalogue import Catalogue
+from metaplay_fixup.fonts import Font
 
 from .made_fonts import MadeFont, write_font
 
@@ -44,6 +46,18 @@ class Folders(unittest.TestCase):
             self.write(place, MadeFont())
         found = Catalogue.of_folders([self.folder / "b", self.folder / "a"]).named("Squares")
         self.assertEqual([file.path.parent.name for file in found], ["b", "a"])
+
+    def test_any_file_name(self) -> None:
+        """Names with letters beyond ASCII, and names that aren't UTF-8."""
+        data = self.write("font.ttf", MadeFont()).read_bytes()
+        (self.folder / "font.ttf").unlink()
+        for name in ("Gr\u00f6\u00dfe.ttf".encode(), b"\xff\xfe.ttf"):
+            path = Path(os.fsdecode(bytes(self.folder) + b"/" + name))
+            path.write_bytes(data)
+        found = Catalogue.of_folders([self.folder]).named("Squares")
+        self.assertEqual(len(found), 2)
+        self.assertEqual([Font(file).metrics.units_per_em for file in found], [1000, 1000])
+        self.assertEqual([file.label for file in found], ["Gr\u00f6\u00dfe.ttf", "??.ttf"])
 
     def test_other_files_are_no_fonts(self) -> None:
         self.write("font.ttf", MadeFont()).rename(self.folder / "font.txt")
