@@ -89,8 +89,14 @@ def label_of(path: Path) -> str:
 def _font_paths(folder: Path) -> list[Path]:
     """The font files below a folder, sorted by their paths. What can't be read is left out."""
     paths = [Path(root, name) for root, _, names in os.walk(folder) for name in names]
-    fonts = [path for path in paths if path.suffix.lower() in _ENDINGS and path.is_file()]
-    return sorted(path for path in fonts if path.stat().st_size <= LONGEST_FONT)
+    return sorted(path for path in paths if path.suffix.lower() in _ENDINGS and _is_short_file(path))
+
+
+def _is_short_file(path: Path) -> bool:
+    try:
+        return path.is_file() and path.stat().st_size <= LONGEST_FONT
+    except OSError:
+        return False
 
 
 def _font_file(path: Path, index: int, os2: bytes, names: list[FaceName]) -> FontFile:

@@ -2,7 +2,7 @@
 
 from __future__ import annotations
 
-from collections.abc import Mapping
+from collections.abc import Iterator, Mapping
 from dataclasses import dataclass, field
 
 from .catalogue import Catalogue, FontFile
@@ -74,16 +74,22 @@ class FontChooser:
         for candidate in self._candidates(request):
             files = self._catalogue.named(candidate.family)
             if files:
-                return self._styled(files, style, candidate.choice, request.face)
+                file = _file_of(files, style)
+                if file is None:
+                    raise Fault(FaultName.MissingFont, f"{request.face}, bold")
+                return self._opened(file, style, candidate.choice)
         raise Fault(FaultName.MissingFont, request.face or "no face is named")
 
-    def fallbacks(self, request: LogicalFont) -> list[ChosenFont]:
-        """The fonts for glyphs that the chosen one hasn't, in the caller's order. A face of signs has none."""
-        if _has_signs(request):
-            return []
+    def fallbacks(self, request: LogicalFont) -> Iterator[ChosenFont]:
+        """The fonts for glyphs that the chosen one hasn't, in the caller's order, each opened when its turn comes.
+
+        A family without a bold serves no bold face, and none serves a face of signs.
+        """
         style = _Style(request.weight > _BOLD_WEIGHT, request.italic)
-        named = ((family, self._catalogue.named(family)) for family in self._rules.fallbacks)
-        return [self._styled(files, style, Choice.INSTEAD, family) for family, files in named if files]
+        for family in () if _has_signs(request) else self._rules.fallbacks:
+            file = _file_of(self._catalogue.named(family), style)
+            if file is not None:
+                yield self._opened(file, style, Choice.INSTEAD)
 
     def _candidates(self, request: LogicalFont) -> list[_Candidate]:
         face = request.face.lower()
@@ -98,20 +104,22 @@ class FontChooser:
             candidates.append(_Candidate(self._rules.instead, Choice.INSTEAD))
         return candidates
 
-    def _styled(self, files: tuple[FontFile, ...], style: _Style, choice: Choice, face: str) -> ChosenFont:
-        """The font of a family with this style. A missing slant is made, a missing bold isn't."""
-        wanted = [file for file in files if file.is_bold == style.is_bold]
-        if style.is_bold and not wanted:
-            raise Fault(FaultName.MissingFont, f"{face}, bold")
-        wanted = wanted or list(files)
-        exact = [file for file in wanted if file.is_italic == style.is_italic]
-        file = (exact or wanted)[0]
-        return ChosenFont(self._opened(file), choice, style.is_italic and not file.is_italic)
-
-    def _opened(self, file: FontFile) -> Font:
+    def _opened(self, file: FontFile, style: _Style, choice: Choice) -> ChosenFont:
         if file not in self._fonts:
             self._fonts[file] = Font(file)
-        return self._fonts[file]
+        return ChosenFont(self._fonts[file], choice, style.is_italic and not file.is_italic)
+
+
+def _file_of(files: tuple[FontFile, ...], style: _Style) -> FontFile | None:
+    """The file of a family that is the nearest to a style, or None if the family has no bold for a bold face.
+
+    The first file with the weight and the slant is taken, else the first with the weight, else the first.
+    """
+    weights = [file for file in files if file.is_bold == style.is_bold]
+    if style.is_bold and not weights:
+        return None
+    slants = [file for file in weights or files if file.is_italic == style.is_italic]
+    return next(iter(slants or weights or files), None)
 
 
 def _has_signs(request: LogicalFont) -> bool:

@@ -135,7 +135,7 @@ class Choices(MadeFamilies):
         self.assert_missing(face("Wingdings", charset=2), "MissingFont (Wingdings)", rules)
         self.assert_missing(face("Wingdings", charset=0), "MissingFont (Wingdings)", rules)
         self.assert_missing(face("Unknown", charset=2), "MissingFont (Unknown)", rules)
-        self.assertEqual(FontChooser(self.catalogue, rules).fallbacks(face("Symbol")), [])
+        self.assertEqual(list(FontChooser(self.catalogue, rules).fallbacks(face("Symbol"))), [])
 
     def test_vertical_faces(self) -> None:
         rules = FontRules(instead="Plain")
@@ -168,6 +168,18 @@ class Fallbacks(MadeFamilies):
         """The em is as large, so that its 500 of 2,000 units are 25, and its advance of 600 is 30."""
         found = self.lay("\u0392A", ("Small",))
         self.assertEqual(found, ([(100, 175, 125, 200), (130, 150, 180, 200)], ("Small",)))
+
+    def test_fallbacks_are_opened_in_turn(self) -> None:
+        """A font that isn't needed may be one that can't be used."""
+        self.assertEqual(self.lay("\u0391", ("Greek", "Restricted"))[1], ("Greek",))
+        with self.assertRaises(Fault) as caught:
+            self.lay("\u0391", ("Restricted", "Greek"))
+        self.assertEqual(str(caught.exception), "EmbeddingNotAllowed (Restricted)")
+
+    def test_fallbacks_without_a_bold_are_passed_over(self) -> None:
+        chooser = FontChooser(self.catalogue, FontRules(fallbacks=("Greek", "Liberation Sans", "Small")))
+        found = [source.font.file.family for source in chooser.fallbacks(face("Plain", weight=700))]
+        self.assertEqual(found, ["Liberation Sans"])
 
     def test_no_family_has_it(self) -> None:
         with self.assertRaises(Fault) as caught:
