@@ -27,17 +27,17 @@ _BITMAPS_ONLY = 0x200
 class FontMetrics:
     """Metrics in font units, from [OpenType] head, OS/2 and post.
 
-    `ascent` and `descent` are usWinAscent and usWinDescent. Of a line, `top` is where its upper edge is above the
-    baseline, `size` how thick it is.
+    `ascent` and `descent` are usWinAscent and usWinDescent. Of a line, `middle` is its height above the baseline,
+    `size` its thickness. The positions of post and OS/2 are taken for those of the middle.
     """
 
     units_per_em: int
     ascent: int
     descent: int
     average_width: int
-    underline_top: int
+    underline_middle: int
     underline_size: int
-    strike_out_top: int
+    strike_out_middle: int
     strike_out_size: int
 
 
@@ -109,9 +109,9 @@ def _metrics(face: Face, os2: bytes, file: FontFile) -> FontMetrics:
         ascent=int.from_bytes(os2[74:76], "big"),
         descent=int.from_bytes(os2[76:78], "big"),
         average_width=_signed(os2, 2),
-        underline_top=_signed(post, 8),
+        underline_middle=_signed(post, 8),
         underline_size=_signed(post, 10),
-        strike_out_top=_signed(os2, 28),
+        strike_out_middle=_signed(os2, 28),
         strike_out_size=_signed(os2, 26),
     )
     if not 16 <= metrics.units_per_em <= 16384 or metrics.ascent + metrics.descent == 0:

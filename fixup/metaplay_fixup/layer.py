@@ -122,14 +122,19 @@ def _note(characters: Characters, font: LogicalFont) -> Note:
 
 
 def _lines(text: Laid, font: LogicalFont) -> list[Contour]:
-    """Underline and strike-out, whose upper edges [OpenType] post and OS/2 give."""
+    """Underline and strike-out."""
     metrics: FontMetrics = text.line.metrics
     bands: list[Contour] = []
     if font.underline:
-        bands.append(band(text, metrics.underline_top - metrics.underline_size, metrics.underline_top))
+        bands.append(_centred_band(text, metrics.underline_middle, metrics.underline_size))
     if font.strike_out:
-        bands.append(band(text, metrics.strike_out_top - metrics.strike_out_size, metrics.strike_out_top))
+        bands.append(_centred_band(text, metrics.strike_out_middle, metrics.strike_out_size))
     return [contour for contour in bands if _has_area(contour)]
+
+
+def _centred_band(text: Laid, middle: int, size: int) -> Contour:
+    """The band of a line with this middle and thickness, in font units."""
+    return band(text, 2 * middle - size, 2 * middle + size)
 
 
 def _background(text: Laid, record: TextRecord, settings: TextSettings) -> Contour | None:
@@ -137,7 +142,7 @@ def _background(text: Laid, record: TextRecord, settings: TextSettings) -> Conto
     both = OPAQUE_BOX | CLIPPED_BOX
     if settings.background_mode != OPAQUE or record.options & both == both:
         return None
-    cell = band(text, -text.line.metrics.descent, text.line.metrics.ascent)
+    cell = band(text, -2 * text.line.metrics.descent, 2 * text.line.metrics.ascent)
     return cell if _has_area(cell) else None
 
 

@@ -81,14 +81,11 @@ def glyph_contours(text: Laid, shapes: ShapeCache) -> list[Contour]:
 
 
 def band(text: Laid, low: int, high: int) -> Contour:
-    """The quadrangle along the whole line between two heights in font units, from its upper left corner on.
-
-    It is the cell for descent and ascent.
-    """
+    """The quadrangle along the line between two heights in halves of a font unit, from its upper left corner on."""
     rise, origin, total = text.line.frame.rise, text.origin, text.total
     corners = ((0, high), (1, high), (1, low), (0, low))
-    xs = [origin.x + part * total.x + height * rise.x for part, height in corners]
-    ys = [origin.y + part * total.y + height * rise.y for part, height in corners]
+    xs = [origin.x + part * total.x + height * rise.x // 2 for part, height in corners]
+    ys = [origin.y + part * total.y + height * rise.y // 2 for part, height in corners]
     return [_rounded(Point(x, y)) for x, y in zip(xs, ys)]
 
 

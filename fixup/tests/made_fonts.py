@@ -1,7 +1,7 @@
 """Fonts made for tests: their glyphs are squares, so that texts can be worked out by hand.
 
 An em has 1,000 units, the cell reaches from 900 above to 300 below the baseline, the average width is 500. The
-underline's upper edge is 100 below, 50 thick; that of the strike-out 300 above, 60 thick.
+middle of the underline is 100 below the baseline, of the strike-out 300 above; they are 50 and 60 thick.
 """
 
 from __future__ import annotations

@@ -197,22 +197,22 @@ class Bands(MadeFolder):
     """Underline, strike-out and the cell."""
 
     def test_underline(self) -> None:
-        """From 100 units below the baseline, 50 thick, as long as the advances."""
+        """Its middle is 100 units below the baseline, it is 50 thick, and as long as the advances."""
         laid = lay(self.layer, Case().of("AA").with_font(underline=True))
-        self.assertEqual(boxes(laid.lines), [(100, 210, 220, 215)])
+        self.assertEqual(boxes(laid.lines), [(100, 207.5, 220, 212.5)])
 
     def test_strike_out(self) -> None:
         laid = lay(self.layer, Case().of("AA").with_font(strike_out=True))
-        self.assertEqual(boxes(laid.lines), [(100, 170, 220, 176)])
+        self.assertEqual(boxes(laid.lines), [(100, 167, 220, 173)])
 
     def test_both_and_turned(self) -> None:
         laid = lay(self.layer, Case().with_font(underline=True, strike_out=True, escapement=900))
-        self.assertEqual(boxes(laid.lines), [(110, 140, 115, 200), (70, 140, 76, 200)])
+        self.assertEqual(boxes(laid.lines), [(107.5, 140, 112.5, 200), (67, 140, 73, 200)])
 
     def test_underlined_blanks_show(self) -> None:
         laid = lay(self.layer, Case().of(" ").with_font(underline=True))
-        self.assertEqual((laid.glyphs, boxes(laid.lines)), ([], [(100, 210, 125, 215)]))
+        self.assertEqual((laid.glyphs, boxes(laid.lines)), ([], [(100, 207.5, 125, 212.5)]))
 
     def test_band_of_a_turned_line_is_a_turned_quadrangle(self) -> None:
         laid = lay(self.layer, Case().with_font(underline=True, escapement=900))
-        self.assertEqual(units(laid.lines[0]), [(110, 200), (110, 140), (115, 140), (115, 200)])
+        self.assertEqual(units(laid.lines[0]), [(107.5, 200), (107.5, 140), (112.5, 140), (112.5, 200)])
