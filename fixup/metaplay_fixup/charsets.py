@@ -35,6 +35,12 @@ _CODE_PAGES = {
 }
 
 
+_ANSI_PAGES = (874, 932, 936, 949, 950, *range(1250, 1259))
+_OEM_PAGES = (437, 720, 737, 775, 850, 852, 855, 857, 858, *range(860, 867), 869)
+CODE_PAGES = frozenset((*_ANSI_PAGES, *_OEM_PAGES))
+"""The code pages that a caller may choose for the default charset: Windows' own, of at most two bytes a character."""
+
+
 @dataclass(frozen=True, slots=True)
 class Characters:
     """A string as Unicode characters, with the distances of each in page units.
@@ -49,6 +55,13 @@ class Characters:
 
 
 Distances = tuple[int, ...] | None
+
+
+def code_page_named(number: int) -> str:
+    """Python's name of a code page. Raises ValueError if it isn't one of CODE_PAGES."""
+    if number not in CODE_PAGES:
+        raise ValueError(f"there is no code page {number}")
+    return f"cp{number}"
 
 
 def code_page_of(charset: int, default: str) -> str:

@@ -9,7 +9,7 @@ from fontTools.ttLib import TTFont  # type: ignore[import]
 
 from metaplay_fixup.adobe_symbol import SYMBOL_NAMES
 from metaplay_fixup.catalogue import Catalogue
-from metaplay_fixup.charsets import Characters, code_page_of, from_bytes, from_utf16
+from metaplay_fixup.charsets import CODE_PAGES, Characters, code_page_named, code_page_of, from_bytes, from_utf16
 from metaplay_fixup.faults import Fault
 from metaplay_fixup.fonts import Font
 
@@ -68,6 +68,13 @@ class Bytes(unittest.TestCase):
 
     def test_charsets_without_a_code_page_of_their_own(self) -> None:
         self.assertEqual([code_page_of(charset, "cp1250") for charset in (1, 7)], ["cp1250", "cp1250"])
+
+    def test_code_pages_that_a_caller_may_choose(self) -> None:
+        """Each is one of Python's; the letter A is the same in all."""
+        for number in CODE_PAGES:
+            self.assertEqual(from_bytes(b"A", 1, code_page_named(number), None, None).codes, (0x41,), number)
+        for number in (0, 37, 1259, 65001):
+            self.assertRaises(ValueError, code_page_named, number)
 
     def test_symbols(self) -> None:
         found = from_bytes(b"a\xff", 2, "cp1252", (7,), None)
