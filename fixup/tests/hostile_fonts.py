@@ -21,15 +21,26 @@ def composite_bomb(path: Path, has_points: bool) -> None:
     # fontTools would follow the composites itself.
     font.recalcBBoxes = False
     for level in range(1, LEVELS):
-        font["glyf"][f"g{0x41 + level:04X}"] = _twice(f"g{0x40 + level:04X}")
+        font["glyf"][f"g{0x41 + level:04X}"] = _composite(f"g{0x40 + level:04X}", 2)
     font["maxp"].maxComponentDepth = 0xFFFF
     font.save(str(path))
 
 
-def _twice(name: str) -> Any:
+def parts_font(path: Path, parts: int) -> None:
+    """Writes a font in which A is B twice, B is C so many times, and C is a square."""
+    builder = built(MadeFont(characters={0x41: A, 0x42: A, 0x43: A}))
+    builder.font.recalcBBoxes = False
+    builder.font["glyf"]["g0041"] = _composite("g0042", 2)
+    builder.font["glyf"]["g0042"] = _composite("g0043", parts)
+    builder.font["maxp"].maxComponentDepth = 2
+    builder.font.save(str(path))
+
+
+def _composite(name: str, count: int) -> Any:
+    """A glyph that is another one so many times, each a unit further right."""
     pen = TTGlyphPen({name: None})
-    pen.addComponent(name, (1, 0, 0, 1, 0, 0))
-    pen.addComponent(name, (1, 0, 0, 1, 1, 0))
+    for number in range(count):
+        pen.addComponent(name, (1, 0, 0, 1, number, 0))
     glyph = pen.glyph()
     glyph.xMin = glyph.yMin = glyph.xMax = glyph.yMax = 0
     return glyph

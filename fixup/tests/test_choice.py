@@ -89,7 +89,8 @@ class Choices(MadeFamilies):
     def test_styles(self) -> None:
         for weight, italic, style in ((0, False, "Regular"), (550, False, "Regular"), (551, False, "Bold")):
             self.assertEqual(self.choose(face("Liberation Sans", weight=weight, italic=italic))[1], style)
-        self.assertEqual(self.choose(face("Liberation Sans", italic=True))[1], "Italic")
+        slanted = ("Liberation Sans", "Italic", Choice.FAMILY, False)
+        self.assertEqual(self.choose(face("Liberation Sans", italic=True)), slanted)
         self.assertEqual(self.choose(face("Liberation Sans", weight=700, italic=True))[1], "Bold Italic")
 
     def test_a_heavy_font_is_a_bold_one(self) -> None:

@@ -62,6 +62,17 @@ class Metrics(unittest.TestCase):
         self.assertEqual((equal_families("calibri"), equal_families("verdana")), (("carlito",), ()))
 
 
+class OwnFonts(MadeFolder):
+    """A made font that has the name Arial itself."""
+
+    made = (MadeFont("Arial"),)
+
+    def test_metrics_are_its_own(self) -> None:
+        """An average of 500 units and an ascent of 900."""
+        case = Case().with_font(face="Arial", width=25).with_settings(align=0)
+        self.assertEqual(boxes(lay(self.layer, case).glyphs), [(100, 240, 125, 290)])
+
+
 class Widths(MadeFolder):
     """A made font of the name Liberation Sans, whose small letters and space have an advance of 250 units."""
 

@@ -15,7 +15,7 @@ from metaplay_fixup.faults import Fault, FaultName
 from metaplay_fixup.fonts import MOST_POINTS, Font
 from metaplay_fixup.layer import FontLayer
 
-from .hostile_fonts import composite_bomb, point_bomb, subroutine_bomb
+from .hostile_fonts import composite_bomb, parts_font, point_bomb, subroutine_bomb
 from .made_fonts import A, B, MadeFont, write_font
 from .texts import TOLERANCE, Case, lay
 
@@ -65,6 +65,15 @@ class Bombs(Hostile):
         composite_bomb(self.folder / "bomb.ttf", True)
         self.assert_bad_font("\x60", f"bomb.ttf: glyph 32 has more than {MOST_PARTS} parts")
         self.assertIsNone(self.fault("\x49"))
+
+    def test_number_of_parts(self) -> None:
+        """Two parts of 499 parts each are 1,000; of 500 they are 1,002."""
+        parts_font(self.folder / "bomb.ttf", 499)
+        self.assertIsNone(self.fault("A"))
+        parts_font(self.folder / "bomb.ttf", 500)
+        self.assert_bad_font("A", f"bomb.ttf: glyph 1 has more than {MOST_PARTS} parts")
+        parts_font(self.folder / "bomb.ttf", 1001)
+        self.assert_bad_font("B", f"bomb.ttf: glyph 2 has more than {MOST_PARTS} parts")
 
     def test_composites_without_points(self) -> None:
         composite_bomb(self.folder / "bomb.ttf", False)

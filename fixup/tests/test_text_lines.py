@@ -166,6 +166,14 @@ class Positions(MadeFolder):
         case = Case().of("AA").with_record(distances_x=(70, 80), distances_y=(10, 20))
         self.assertEqual(self.position(case), Point(250, 170))
 
+    def test_by_distances_upwards_to_the_right(self) -> None:
+        case = Case().of("AA").with_record(distances_x=(70, 80), distances_y=(10, 20))
+        self.assertEqual(self.position(case.with_settings(align=BASELINE | RIGHT)), Point(-50, 230))
+
+    def test_by_the_width_of_a_record(self) -> None:
+        """An advance of 600 units is 30 where 500 units are 25."""
+        self.assertEqual(self.position(Case().of("AA").with_font(width=25)), Point(160, 200))
+
     def test_turned(self) -> None:
         self.assertEqual(self.position(Case().of("AA").with_font(escapement=900)), Point(100, 80))
 

@@ -88,6 +88,11 @@ class Clips(MadeFolder):
         self.assertEqual(self.clip(Box(100, 150, 100, 200)), Box(100, 150, 100, 200))
         self.assertEqual(self.clip(Box(0, 0, 0, 0)), Box(0, 0, 0, 0))
 
+    def test_box_on_a_page_that_points_up(self) -> None:
+        case = Case().with_record(options=CLIPPED_BOX, box=Box(100, -150, 150, -200), reference=Point(100, -200))
+        case = case.on(page_of(Point(1, -1), Point(1, 1)))
+        self.assertIsNone(clip_box(case.record, lay(self.layer, case), case.page))
+
     def test_turned_box_around_the_text(self) -> None:
         """A world that turns by 45 degrees and stretches; text and box turn with it."""
         self.assertIsNone(self.clip(Box(90, 140, 160, 210), Affine(1, 1, -1, 1, 0, 0)))
@@ -129,6 +134,7 @@ class Blanks(MadeFolder):
     def test_zeros_at_the_end_are_left_out(self) -> None:
         case = Case().of("A\0\0").with_settings(align=BASELINE | UPDATE_POSITION).with_record(distances_x=(60, 7, 7))
         self.assertEqual(lay(self.layer, case).position, Point(160, 200))
+        self.assertEqual(lay(self.layer, case.with_record(codes=b"A\0\0")).position, Point(160, 200))
 
     def test_blanks_that_the_font_has_not(self) -> None:
         """With distances they are left out; without, a line feed has no width, and the width of U+2003 is unknown."""
@@ -175,7 +181,23 @@ class Rejections(MadeFolder):
         self.assert_fault(Case().of("\uf041"), "MissingGlyph (U+F041 in Squares)")
 
     def test_complex_scripts(self) -> None:
-        for code in (0x301, 0x5D0, 0x627, 0x915, 0xE01, 0x1100, 0x202E, 0xFB1D, 0xFEFC, 0x10840):
+        for code in (
+            0x301,
+            0x5D0,
+            0x627,
+            0x915,
+            0xE01,
+            0xF40,
+            0x1000,
+            0x109F,
+            0x1100,
+            0x11FF,
+            0x17B6,
+            0x202E,
+            0xFB1D,
+            0xFEFC,
+            0x10840,
+        ):
             case = Case().with_record(codes=(0x41, *_utf16(code)))
             self.assert_fault(case, f"ComplexScript (U+{code:04X})")
 

@@ -97,6 +97,20 @@ class Pages(MadeFolder):
         self.assert_boxes(case, *expected)
         self.assert_boxes(case.with_record(graphics_mode=ADVANCED), *expected)
 
+    def test_escapement_turns_against_the_clock_where_the_page_runs_to_the_left(self) -> None:
+        """A quarter turn as before; a distance of 60 and one of 10 upwards, which is to the left here."""
+        page = page_of(Point(-100, 100), Point(100, 100))
+        case = Case().on(page).of("AA").with_font(escapement=900, orientation=900)
+        case = case.with_record(reference=Point(-100, 200), distances_x=(60, 0), distances_y=(10, 0))
+        expected = (50, 150, 100, 200), (40, 90, 90, 140)
+        self.assert_boxes(case, *expected)
+        self.assert_boxes(case.with_record(graphics_mode=ADVANCED), *expected)
+
+    def test_advanced_width(self) -> None:
+        """25 page units for 500 font units, along the line."""
+        case = Case().of("AA").with_font(width=25).with_record(graphics_mode=ADVANCED)
+        self.assert_boxes(case, (100, 150, 125, 200), (130, 150, 155, 200))
+
     def test_a_world_turns_text(self) -> None:
         """(x, y) becomes (-y, x): along the line is down, up is to the right."""
         case = Case().on(page_of(world=Affine(0, 1, -1, 0, 0, 0))).of("AA").with_record(graphics_mode=ADVANCED)
