@@ -89,7 +89,7 @@ class Clips(MadeFolder):
         self.assertEqual(self.clip(Box(0, 0, 0, 0)), Box(0, 0, 0, 0))
 
     def test_box_on_a_page_that_points_up(self) -> None:
-        case = Case().with_record(options=CLIPPED_BOX, box=Box(100, -150, 150, -200), reference=Point(100, -200))
+        case = Case().with_record(options=CLIPPED_BOX, box=Box(100, -200, 150, -150), reference=Point(100, -200))
         case = case.on(page_of(Point(1, -1), Point(1, 1)))
         self.assertIsNone(clip_box(case.record, lay(self.layer, case), case.page))
 
