@@ -1,0 +1,18 @@
+"""Replaces records of Windows metafiles that `metaplay` rejects by records that its print profile plays.
+
+`convert.convert` does it, and each module does one thing:
+
+- what all know: `faults`, `options`, and `text`, which `layer` implements
+- numbers: `fixed`, `affine`, `singles`, `angles`, `curves`, `rounds`, `shapes`
+- records and files: `records` with its tables `emf_kinds` and `wmf_kinds`, `reader`
+- the playing state: `objects`, `slots`, `worlds`, `viewports`, `extents`, `clips`, `paths`, `state`
+- bitmaps: `pictures`, `channels`, `compressed`, `bitmaps`, `blends`, `sources`
+- fonts: `faces` over FreeType, `fonts`, `composites`, `catalogue`, `families`, `adobe_symbol`, `choice`
+- outlines: `outlines`, `flattening`, `glyph_shapes`
+- text: `charsets`, `scripts`, `metrics`, `face_metrics`, `glyphs`, `layout`, `text_boxes`, `layer`
+- the output: `output`, `marks`, `budgets`
+- blocks: `text_blocks`, `emf_blocks`, `wmf_blocks`
+- what happens to each record: `session`, `steps`, and the modules that begin with `emf` and `wmf`
+
+No module but those of the last two groups knows these.
+"""

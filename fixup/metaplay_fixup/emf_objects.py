@@ -1,0 +1,126 @@
+"""Records of EMF that make, select and delete objects ([MS-EMF] 2.3.7, 2.3.8)."""
+
+from __future__ import annotations
+
+from .bitmaps import plays_as_stored, stored
+from .emf_session import EmfSession
+from .faults import Fault, FaultName
+from .objects import FIRST_STOCK, Brush, Palette, Pen, logical_font, read_palette, stock_object
+from .output import Action
+from .records import numbers_at
+from .text import LogicalFont
+
+_NULL_PEN = 5
+_NULL_BRUSH = 1
+_GEOMETRIC = 0x10000
+_FACE_AT, _FACE_LENGTH = 40, 32
+_PALETTE_AT = 16
+
+
+def select(session: EmfSession) -> None:
+    """EMR_SELECTOBJECT."""
+    index = session.fields["index"]
+    found = stock_object(index) if index >= FIRST_STOCK else session.objects.get(index)
+    state = session.state
+    if isinstance(found, Pen):
+        state.pen = found
+    elif isinstance(found, LogicalFont):
+        state.font = found
+    session.keep()
+
+
+def select_palette(session: EmfSession) -> None:
+    """EMR_SELECTPALETTE."""
+    index = session.fields["index"]
+    found = stock_object(index) if index >= FIRST_STOCK else session.objects.get(index)
+    if isinstance(found, Palette):
+        session.state.palette = found
+    session.keep()
+
+
+def delete(session: EmfSession) -> None:
+    """EMR_DELETEOBJECT."""
+    session.objects.pop(session.fields["index"], None)
+    session.keep()
+
+
+def create_pen(session: EmfSession) -> None:
+    """EMR_CREATEPEN."""
+    fields = session.fields
+    is_null = fields["style"] & 15 == _NULL_PEN
+    data = _with_colour(session, is_null)
+    session.make(fields["index"], Pen(abs(fields["width"]), is_null, data))
+
+
+def create_long_pen(session: EmfSession) -> None:
+    """EMR_EXTCREATEPEN. Only geometric pens have a width."""
+    fields = session.fields
+    is_null = fields["style"] & 15 == _NULL_PEN or fields["brush_style"] == _NULL_BRUSH
+    data = _with_colour(session, is_null)
+    width = fields["width"] if fields["style"] & _GEOMETRIC else 0
+    session.make(fields["index"], Pen(width, is_null, data))
+
+
+def _with_colour(session: EmfSession, is_null: bool) -> bytes:
+    """Keeps the record at hand, or replaces its colour if that is one of the palette; gives what stands in the
+    output.
+    """
+    if is_null:
+        session.keep()
+    else:
+        session.keep_with_colour()
+    return session.output.entries[-1].records[0]
+
+
+def create_brush(session: EmfSession) -> None:
+    """EMR_CREATEBRUSHINDIRECT."""
+    fields = session.fields
+    _with_colour(session, fields["style"] == _NULL_BRUSH)
+    session.make(fields["index"], Brush())
+
+
+def create_bitmap_brush(session: EmfSession) -> None:
+    """EMR_CREATEDIBPATTERNBRUSHPT. A bitmap that the checker doesn't read becomes one of 24 bits."""
+    fields = session.fields
+    session.make(fields["index"], Brush())
+    header, bits = bitmap_parts(session)
+    usage = fields["usage"]
+    if plays_as_stored(header, usage):
+        session.keep()
+        return
+    picture = session.picture(header, bits, usage)
+    header, bits = stored(picture)
+    numbers = (fields["index"], 0, 32, len(header), 32 + len(header), len(bits))
+    session.replace(Action.BITMAP, [session.write("EMR_CREATEDIBPATTERNBRUSHPT", *numbers, rest=header + bits)])
+
+
+def bitmap_parts(session: EmfSession) -> tuple[bytes, bytes]:
+    """The header with its table, and the rows, of the record's bitmap.
+
+    Raises Fault BadParams if they go past the record's end.
+    """
+    header_at, header_size, bits_at, bits_size = session.fields.several(
+        "header_at", "header_size", "bits_at", "bits_size"
+    )
+    length = len(session.data)
+    if header_at + header_size > length or bits_at + bits_size > length:
+        raise Fault(FaultName.BadParams, "a bitmap goes past the record's end")
+    header = session.data[header_at : header_at + header_size]
+    return header, session.data[bits_at : bits_at + bits_size]
+
+
+def create_palette(session: EmfSession) -> None:
+    """EMR_CREATEPALETTE."""
+    fields = session.fields
+    session.make(fields["index"], read_palette(session.data, _PALETTE_AT, fields["entries"]))
+    session.keep()
+
+
+def create_font(session: EmfSession) -> None:
+    """EMR_EXTCREATEFONTINDIRECTW ([MS-EMF] 2.2.13)."""
+    fields = session.fields
+    letters = numbers_at(session.data, _FACE_AT, _FACE_LENGTH, "H")
+    end = letters.index(0) if 0 in letters else len(letters)
+    face = b"".join(letter.to_bytes(2, "little") for letter in letters[:end]).decode("utf-16-le", "replace")
+    session.make(fields["index"], logical_font(fields, face))
+    session.keep()

@@ -1,0 +1,120 @@
+"""The conversion of a WMF file: what its handlers of records share."""
+
+from __future__ import annotations
+
+from collections.abc import Sequence
+
+from .affine import Point
+from .budgets import Budget
+from .faults import Fault, FaultName
+from .fixed import ONE
+from .objects import Pen
+from .options import Options
+from .output import Action
+from .reader import Form, Metafile
+from .records import numbers_at
+from .session import Session
+from .shapes import Figure
+from .slots import Slots
+from .state import ANISOTROPIC, ISOTROPIC, MOST_SAVED, PageMap
+from .text import TextLayer
+from .wmf_blocks import FineWindow, lines, polygons
+from .wmf_kinds import WMF
+
+_HEADER_SIZE = 18
+_BOX_AT = 6
+_PARTS_OF_PIXEL = 8
+_WIDEST = 0x7FFF
+
+
+class WmfSession(Session):
+    """A conversion of a WMF file."""
+
+    def __init__(self, metafile: Metafile, options: Options, texts: TextLayer | None) -> None:
+        page = _first_map(metafile)
+        tolerance = max(page.viewport_extent) * ONE // (_PARTS_OF_PIXEL * options.bound)
+        super().__init__(metafile, options, texts, WMF, Budget(max(1, tolerance)))
+        self.state.asked_window = page.window_extent
+        self.state.set_page(page)
+        self.slots = Slots()
+
+    @property
+    def is_scaled(self) -> bool:
+        """Whether the map mode has extents of its own."""
+        return self.state.page.mode in (ISOTROPIC, ANISOTROPIC)
+
+    def write_point(self, name: str, point: Point) -> bytes:
+        """A record of a point, which WMF writes with y first."""
+        return self.write(name, point.y, point.x)
+
+    def move_record(self) -> bytes:
+        """The record that moves the position to where it is."""
+        return self.write_point("META_MOVETO", self.state.position)
+
+    def file(self, records: list[bytes]) -> bytes:
+        """The file of these records, with counts and sizes in its header ([MS-WMF] 2.3.2.2)."""
+        head = bytearray(self.metafile.head)
+        at = len(head) - _HEADER_SIZE
+        words = (_HEADER_SIZE + sum(map(len, records))) // 2
+        objects = max(int.from_bytes(head[at + 10 : at + 12], "little"), self.slots.most)
+        largest = max(int.from_bytes(head[at + 12 : at + 16], "little"), max(map(len, records)) // 2)
+        head[at + 6 : at + 10] = words.to_bytes(4, "little")
+        head[at + 10 : at + 12] = objects.to_bytes(2, "little")
+        head[at + 12 : at + 16] = largest.to_bytes(4, "little")
+        return bytes(head) + b"".join(records)
+
+    def check_depth(self) -> None:
+        """Raises Fault DepthLimit if a block can't save the state."""
+        if len(self.saved) >= MOST_SAVED:
+            raise Fault(FaultName.DepthLimit)
+
+    def draw(self, figure: Figure) -> None:
+        """Replaces the record by a block that fills and strokes a closed figure, or strokes an open one, with the
+        file's pen.
+        """
+        self.check_depth()
+        pen = self.state.pen
+        is_wide = not pen.is_null and pen.width > 0 and pen.data is not None
+        is_even = is_wide or self.state.page.mode == ISOTROPIC
+        window = FineWindow.around(self.state.page, figure.points, is_even)
+        drawn = polygons(window, [figure.points]) if figure.is_closed else lines(window, figure.points)
+        if not drawn:
+            self.replace(Action.CURVE)
+            return
+        make, drop = self._wide_pen(pen, window) if is_wide else ([], [])
+        block = [self.write("META_SAVEDC"), *window.records(), *make, *drawn, self.write("META_RESTOREDC", -1), *drop]
+        self.replace(Action.CURVE, block)
+
+    def _wide_pen(self, pen: Pen, window: FineWindow) -> tuple[list[bytes], list[bytes]]:
+        """Records that make and select the pen with its width in the block's units, and one that deletes it."""
+        assert pen.data is not None
+        (index,) = self.slots.lowest_free(1)
+        width = min(_WIDEST, pen.width * window.factors.x)
+        make = WMF.named("META_CREATEPENINDIRECT").changed(pen.data, width=width)
+        return [make, self.write("META_SELECTOBJECT", index)], [self.write("META_DELETEOBJECT", index)]
+
+
+def _first_map(metafile: Metafile) -> PageMap:
+    """The page map at the start: that of the placeable box, or of the first window extent.
+
+    Raises Fault NoFrame if there is none.
+    """
+    if metafile.form is Form.PLACEABLE:
+        left, top, right, bottom = numbers_at(metafile.head, _BOX_AT, 4, "h")
+    else:
+        left, top = 0, 0
+        right, bottom = _first_extent(metafile.records)
+    extent = Point(right - left, bottom - top)
+    if 0 in extent:
+        raise Fault(FaultName.NoFrame)
+    return PageMap(ANISOTROPIC, Point(left, top), extent, Point(0, 0), Point(abs(extent.x), abs(extent.y)))
+
+
+def _first_extent(records: Sequence[bytes]) -> Point:
+    kind = WMF.named("META_SETWINDOWEXT")
+    for record in records:
+        if WMF.layout.number(record) == kind.number and len(record) >= kind.end:
+            extent = kind.read(record).point()
+            if 0 not in extent:
+                return extent
+    return Point(0, 0)

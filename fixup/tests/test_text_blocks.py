@@ -1,0 +1,304 @@
+"""Blocks that take the place of text, with a layer of squares whose points are worked out by hand."""
+
+import hashlib
+import unittest
+
+from metaplay_fixup.convert import Converted, convert
+from metaplay_fixup.faults import Fault, FaultName
+from metaplay_fixup.options import Options
+from metaplay_fixup.output import Action
+from metaplay_fixup.text import Box
+
+from .oracle import (
+    EMF_END,
+    NO_BOUNDS,
+    emf_file,
+    emf_record,
+    emf_script,
+    i16,
+    i32,
+    placeable_file,
+    refusal_of,
+    u16,
+    u32,
+    wmf_record,
+    wmf_script,
+)
+from .parts import Place, number, places_of, records_of
+from .squares import Squares
+from .test_emf import PARTS, map_to, modify, world
+
+TRANSPARENT = emf_script("back_mode 1")
+UPDATE_POSITION = emf_record(22, u32(1))
+
+
+def font(height: int = 10, underline: int = 0, index: int = 1) -> list[bytes]:
+    """A font, selected."""
+    sizes = i32(height, 0, 0, 0, 400) + bytes([0, underline, 0, 0, 0, 0, 0, 0])
+    return [
+        emf_record(82, u32(index) + sizes + "Squares".encode("utf-16-le").ljust(64, b"\0")),
+        emf_record(37, u32(index)),
+    ]
+
+
+def text(string: str, x: int, y: int, options: int = 0, box: tuple[int, int, int, int] = (0, 0, -1, -1)) -> bytes:
+    """EMR_EXTTEXTOUTW without distances."""
+    codes = string.encode("utf-16-le")
+    numbers = u32(1, 0, 0) + i32(x, y) + u32(len(string), 76, options) + i32(*box) + u32(0)
+    return emf_record(84, NO_BOUNDS + numbers + codes + bytes(-len(codes) % 4))
+
+
+def converted(records: list[bytes]) -> list[Place]:
+    """The replaced places of a file of these records, which plays, and converts to itself without a layer."""
+    data = emf_file([*TRANSPARENT, *font(), *records])
+    result = convert(data, Options(), Squares())
+    assert refusal_of(result.data) is None, refusal_of(result.data)
+    assert convert(result.data, Options(), None) == Converted(result.data, ())
+    return places_of(data, result.data)
+
+
+def square(x: int, y: int, origin: tuple[int, int], size: int = 10) -> bytes:
+    """The polygon of a square in a block with an origin."""
+    left, top = (x - origin[0]) * PARTS, (y - origin[1]) * PARTS
+    right, bottom = left + size * PARTS, top + size * PARTS
+    return emf_record(
+        86, i32(x, y, x + size, y + size) + u32(4) + i16(left, top, right, top, right, bottom, left, bottom)
+    )
+
+
+def brush(colour: int) -> list[bytes]:
+    """A brush at the index beyond the file's, selected."""
+    return [emf_record(39, u32(4, 0, colour, 0)), emf_record(37, u32(4))]
+
+
+SETTINGS = [emf_record(19, u32(2)), emf_record(20, u32(13)), emf_record(37, u32(0x80000008))]
+END = [emf_record(34, i32(-1)), emf_record(40, u32(4))]
+
+
+class Emf(unittest.TestCase):
+    """Text of EMF."""
+
+    def test_block(self) -> None:
+        """Save, map, settings, null pen, brush, one polygon of all glyphs, restore, delete."""
+        (place,) = converted([emf_record(24, u32(0x030201)), text("a", 20, 30)])
+        expected = [emf_record(33), *map_to(20, 30), *SETTINGS, *brush(0x030201), square(20, 30, (20, 30)), *END]
+        self.assertEqual(place.records, expected)
+
+    def test_glyphs_together(self) -> None:
+        """Two glyphs are one polypolygon."""
+        (place,) = converted([text("ab", 20, 30)])
+        polygons = place.records[11]
+        self.assertEqual((number(polygons, 0), number(polygons, 24), number(polygons, 28)), (91, 2, 8))
+
+    def test_shared_block(self) -> None:
+        """Texts of one colour that follow each other share a block; blanks between them don't matter."""
+        (place,) = converted([text("a", 20, 30), text(" ", 0, 0), text("b", 25, 30)])
+        squares = [square(20, 30, (20, 30)), square(25, 30, (20, 30))]
+        expected = [emf_record(33), *map_to(20, 30), *SETTINGS, *brush(0), *squares, *END]
+        self.assertEqual((place.first, place.count, place.records), (4, 3, expected))
+
+    def test_blocks_of_their_own(self) -> None:
+        """Another colour between, another record between, and a text far away begin another block."""
+        for between in ([emf_record(24, u32(0xFF))], emf_script("pixel 1 1")):
+            places = converted([text("a", 20, 30), *between, text("b", 30, 30)])
+            self.assertEqual([len(place.records) for place in places], [14, 14])
+        (place,) = converted([text("a", 20, 30), text("b", 60, 30)])
+        self.assertEqual(len(place.records), 28)
+
+    def test_background(self) -> None:
+        """In opaque mode the background is filled first, and its brush goes when the next one comes."""
+        records = [*emf_script("back_mode 2; back_colour 0x00ff00"), text("a", 20, 30)]
+        (place,) = converted(records)
+        change = [emf_record(37, u32(0x80000005)), emf_record(40, u32(4))]
+        shape = square(20, 30, (20, 30))
+        expected = [emf_record(33), *map_to(20, 30), *SETTINGS, *brush(0xFF00), shape, *change, *brush(0), shape, *END]
+        self.assertEqual(place.records, expected)
+
+    def test_underline(self) -> None:
+        """An underline is a polygon of its own: in one winding fill it could cut a hole."""
+        (place,) = converted([*font(10, 1, 2), text("a", 20, 30)])
+        self.assertEqual([number(record, 0) for record in place.records[11:13]], [86, 86])
+
+    def test_opaque_box(self) -> None:
+        """The record's box is filled with the background's colour, even without text."""
+        (place,) = converted([*emf_script("back_colour 0x00ff00"), text("", 0, 0, 2, (40, 50, 44, 54))])
+        expected = [emf_record(33), *map_to(40, 50), *SETTINGS, *brush(0xFF00), square(40, 50, (40, 50), 4), *END]
+        self.assertEqual(place.records, expected)
+
+    def test_clipped(self) -> None:
+        """A text that isn't in its box is clipped by it; one that is, or an empty box, needs no clip."""
+        (place,) = converted([text("a", 20, 30, 4, (25, 30, 40, 40))])
+        self.assertEqual(place.records[6], emf_record(30, i32(5 * PARTS, 0, 20 * PARTS, 10 * PARTS)))
+        for box in ((20, 30, 30, 40), (5, 5, 5, 5)):
+            (place,) = converted([text("a", 20, 30, 4, box)])
+            self.assertEqual(len(place.records), 14)
+
+    def test_turned_clip(self) -> None:
+        """A turned box can't clip."""
+        data = emf_file([*TRANSPARENT, *font(), world(0, 1, -1, 0, 90, 0), text("a", 20, 30, 4, (25, 30, 40, 40))])
+        with self.assertRaises(Fault) as raised:
+            convert(data, Options(), Squares())
+        self.assertEqual((raised.exception.name, raised.exception.record), (FaultName.ClipShape, 5))
+
+    def test_position(self) -> None:
+        """Text that moves the position begins there, and a line after it begins at its end."""
+        places = converted([UPDATE_POSITION, *emf_script("move 5 6"), text("ab", 90, 90), *emf_script("line 9 9")])
+        self.assertEqual(places[0].records[4], emf_record(12, i32(5, 6)))
+        self.assertEqual(places[0].records[-1], emf_record(27, i32(25, 6)))
+
+    def test_path(self) -> None:
+        """Text in a path adds its squares, which the path then fills."""
+        begin, end, fill = emf_script("begin_path; end_path; fill_path")
+        (place,) = converted([begin, text("a", 20, 30), end, fill])
+        self.assertEqual((place.first, place.count), (4, 4))
+        self.assertEqual(place.records[-2], square(20, 30, (20, 30)))
+
+    def test_stroked_path(self) -> None:
+        """The squares of text in a path are closed figures, so their outlines end where they begin."""
+        begin, end, stroke = emf_script("begin_path; end_path; stroke_path")
+        (place,) = converted([begin, text("a", 20, 30), end, stroke])
+        points = i16(0, 0, 10240, 0, 10240, 10240, 0, 10240, 0, 0)
+        self.assertEqual(place.records[-2], emf_record(87, i32(20, 30, 30, 40) + u32(5) + points))
+
+    def test_small_text(self) -> None:
+        """EMR_SMALLTEXTOUT with characters of one byte and without a box."""
+        record = emf_record(108, i32(20, 30) + u32(1, 0x300, 1, 0, 0) + b"a\0\0\0")
+        (place,) = converted([record])
+        self.assertEqual(place.records[11], square(20, 30, (20, 30)))
+
+    def test_what_is_asked(self) -> None:
+        """The layer gets the string, the distances, the font and the settings as the records have them."""
+        squares = Squares()
+        numbers = u32(2, 0, 0) + i32(7, 8) + u32(2, 76, 0x2000) + i32(1, 2, 3, 4) + u32(80)
+        record = emf_record(84, NO_BOUNDS + numbers + u16(0x61, 0x62) + i32(5, -1, 6, 2))
+        settings = [emf_record(120, i32(3, 4)), emf_record(22, u32(24))]
+        convert(emf_file([*font(-12), *settings, record]), Options(), squares)
+        ((asked, asked_font, asked_settings),) = squares.asked
+        self.assertEqual((asked.codes, asked.distances_x, asked.distances_y), ((0x61, 0x62), (5, 6), (-1, 2)))
+        self.assertEqual((asked.box, asked.reference, asked.graphics_mode), (Box(1, 2, 3, 4), (7, 8), 2))
+        self.assertEqual((asked_font.height, asked_font.face, asked_font.weight), (-12, "Squares", 400))
+        self.assertEqual((asked_settings.break_extra, asked_settings.break_count, asked_settings.align), (3, 4, 24))
+
+    def test_report(self) -> None:
+        """The report says what became of each record, with its box in device units."""
+        result = convert(emf_file([*TRANSPARENT, *font(), text("a", 20, 30), text(" ", 0, 0)]), Options(), Squares())
+        actions = [(replacement.record, replacement.action, replacement.box) for replacement in result.replacements]
+        self.assertEqual(actions, [(4, Action.OUTLINES, Box(20, 30, 30, 40)), (5, Action.BLANK, None)])
+
+    def test_stamps(self) -> None:
+        """Before the end stand the SHA-256 of the original, and the family and SHA-256 of each font."""
+        data = emf_file([*TRANSPARENT, *font(), text("a", 20, 30), text("b", 90, 30)])
+        *_, original, fonts, end = records_of(convert(data, Options(), Squares()).data)
+        self.assertEqual(end, EMF_END)
+        expected = '{"original":"%s"}' % hashlib.sha256(data).hexdigest()
+        self.assertEqual(original[12:20], b"MPFX" + u32(3))
+        self.assertEqual(original[20:].rstrip(b"\0").decode(), expected)
+        self.assertEqual(fonts[20:].rstrip(b"\0").decode(), '{"family":"Squares","sha256":"%s"}' % ("ab" * 32))
+
+    def test_text_only(self) -> None:
+        """Only text is replaced; the world stays, and is set aside in the block; the position is set at once."""
+        records = [world(2, 0, 0, 2, 0, 0), UPDATE_POSITION, emf_record(42, i32(1, 1, 9, 9)), text("a", 20, 30)]
+        data = emf_file([*TRANSPARENT, *font(), *records])
+        result = convert(data, Options(text_only=True), Squares())
+        (place,) = places_of(data, result.data)
+        self.assertEqual((place.first, place.count), (7, 1))
+        self.assertEqual(place.records[1], modify(1, 1, 0, 0, 1, 0, 0))
+        self.assertEqual(place.records[-1], emf_record(27, i32(10, 0)))
+
+    def test_cut_strings(self) -> None:
+        """A string or distances beyond the record."""
+        wrong = text("abc", 1, 1)[:80]
+        for record in (wrong[:4] + u32(80) + wrong[8:], emf_record(83, text("a", 1, 1)[8:48] + u32(200) + bytes(24))):
+            with self.assertRaises(Fault) as raised:
+                convert(emf_file([record]), Options(), Squares())
+            self.assertEqual(raised.exception.name, FaultName.BadParams)
+
+
+class Wmf(unittest.TestCase):
+    """Text of WMF."""
+
+    FONT = wmf_record(0x02FB, i16(10, 0, 0, 0, 400) + bytes(8) + b"Squares\0")
+    SETUP = [*wmf_script("back_mode 1"), FONT, *wmf_script("select 0")]
+
+    def converted(self, records: list[bytes]) -> list[Place]:
+        """The replaced places of a file of these records, which plays, and converts to itself without a layer."""
+        data = placeable_file([*self.SETUP, *records])
+        result = convert(data, Options(), Squares())
+        self.assertIsNone(refusal_of(result.data))
+        self.assertEqual(convert(result.data, Options(), None), Converted(result.data, ()))
+        return places_of(data, result.data)
+
+    def block(self, x: int, y: int, *records: bytes) -> list[bytes]:
+        """A block in 256 parts, counted from a point, with pen and brush at the indexes 1 and 2."""
+        return [
+            wmf_record(0x001E),
+            wmf_record(0x020B, i16(-y * 256, -x * 256)),
+            wmf_record(0x020C, i16(25600, 25600)),
+            wmf_record(0x0106, u16(2)),
+            wmf_record(0x0104, u16(13)),
+            wmf_record(0x02FA, u16(5) + bytes(8)),
+            wmf_record(0x012D, u16(1)),
+            *records,
+            wmf_record(0x0127, i16(-1)),
+            wmf_record(0x01F0, u16(1)),
+        ]
+
+    def brush(self, colour: int, index: int) -> list[bytes]:
+        """A brush, selected."""
+        return [wmf_record(0x02FC, u16(0) + u32(colour) + u16(0)), wmf_record(0x012D, u16(index))]
+
+    SQUARE = wmf_record(0x0324, i16(4, 0, 0, 2560, 0, 2560, 2560, 0, 2560))
+
+    def test_text(self) -> None:
+        """META_TEXTOUT: a string of odd length is filled up; y comes before x."""
+        (place,) = self.converted([wmf_record(0x0521, i16(1) + b"a\0" + i16(30, 20))])
+        expected = [*self.block(20, 30, *self.brush(0, 2), self.SQUARE), wmf_record(0x01F0, u16(2))]
+        self.assertEqual(place.records, expected)
+
+    def test_two_colours(self) -> None:
+        """The second brush takes another index, and the first goes when it is no longer selected."""
+        record = wmf_record(0x0A32, i16(30, 20, 1, 2) + i16(20, 30, 30, 40) + b"a\0")
+        (place,) = self.converted([wmf_record(0x0209, u32(0xFF)), record])
+        brushes = [*self.brush(0xFFFFFF, 2), self.SQUARE, *self.brush(0xFF, 3), wmf_record(0x01F0, u16(2)), self.SQUARE]
+        self.assertEqual(place.records, [*self.block(20, 30, *brushes), wmf_record(0x01F0, u16(3))])
+
+    def test_distances(self) -> None:
+        """META_EXTTEXTOUT: a box, the string, and a distance for each character."""
+        squares = Squares()
+        record = wmf_record(0x0A32, i16(30, 20, 3, 4) + i16(1, 2, 3, 4) + b"abc\0" + i16(7, -8, 9))
+        convert(placeable_file([*self.SETUP, record]), Options(), squares)
+        ((asked, asked_font, _),) = squares.asked
+        self.assertEqual((asked.codes, asked.distances_x, asked.box), (b"abc", (7, -8, 9), Box(1, 2, 3, 4)))
+        self.assertEqual((asked.reference, asked.graphics_mode, asked_font.face), ((20, 30), 1, "Squares"))
+
+    def test_clipped(self) -> None:
+        """A text that isn't in its box is clipped by it, its corners in the block's units."""
+        record = wmf_record(0x0A32, i16(30, 20, 1, 4) + i16(25, 30, 40, 40) + b"a\0")
+        (place,) = self.converted([record])
+        self.assertEqual(place.records[3], wmf_record(0x0416, i16(2560, 5120, 0, 1280)))
+
+    def test_position(self) -> None:
+        """Text that moves the position begins there, and a line after it begins at its end."""
+        records = [
+            wmf_record(0x012E, u16(1)),
+            *wmf_script("move 5 6"),
+            wmf_record(0x0521, i16(1) + b"a\0" + i16(90, 90)),
+        ]
+        places = self.converted([*records, *wmf_script("line 9 9")])
+        self.assertEqual(places[0].records[-1], wmf_record(0x0214, i16(6, 15)))
+
+    def test_text_only(self) -> None:
+        """An ellipse stays, and the position is set at once."""
+        records = [
+            wmf_record(0x012E, u16(1)),
+            wmf_record(0x0418, i16(9, 9, 1, 1)),
+            wmf_record(0x0521, i16(1) + b"a\0" + i16(0, 0)),
+        ]
+        data = placeable_file([*self.SETUP, *records])
+        (place,) = places_of(data, convert(data, Options(text_only=True), Squares()).data)
+        self.assertEqual((place.first, place.count), (5, 1))
+        self.assertEqual(place.records[-1], wmf_record(0x0214, i16(0, 10)))
+
+
+if __name__ == "__main__":
+    unittest.main()
