@@ -107,8 +107,7 @@ def _put_in_place(target: Path, report: Path | None, results: Results) -> None:
                 whole.write(file)
             for whole, _ in files:
                 whole.put_in_place()
-    except (OSError, ValueError) as error:
-        # A name may have a zero in it.
+    except OSError as error:
         raise Ending(Status.FAILED, CANNOT_WRITE) from error
 
 

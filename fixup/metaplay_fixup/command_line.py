@@ -83,7 +83,10 @@ class CommandLine:
 def read_command_line(words: Sequence[str]) -> CommandLine | Extra:
     """What the words after the program's name ask for. Raises WrongUsage."""
     parser = _parser()
-    given = parser.parse_intermixed_args(list(words))
+    # What follows "--" is a name, even if it looks like an option.
+    end = words.index("--") if "--" in words else len(words)
+    given = parser.parse_intermixed_args(list(words[:end]))
+    given.names += words[end + 1 :]
     if given.help or given.version:
         return Extra.HELP if given.help else Extra.VERSION
     works = _folder_works(given) if given.out_dir is not None else _single_work(given)

@@ -50,8 +50,8 @@ def _read(source: str) -> bytes:
         else:
             with open(source, "rb") as stream:
                 data = stream.read(LONGEST_INPUT + 1)
-    except (OSError, ValueError, AttributeError) as error:
-        # A name may have a zero in it, and standard input may be closed.
+    except (OSError, AttributeError) as error:
+        # There is no sys.stdin if standard input is closed.
         raise Ending(Status.FAILED, CANNOT_READ) from error
     if len(data) > LONGEST_INPUT:
         raise Ending(Status.FAILED, CANNOT_READ)
