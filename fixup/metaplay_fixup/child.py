@@ -9,7 +9,7 @@ from collections.abc import Callable
 from dataclasses import dataclass
 from typing import NoReturn
 
-from .statuses import OUT_OF_MEMORY, Ending, Status
+from .statuses import Ending, Status, out_of_memory
 
 _LONGEST_LINE = 4096
 
@@ -58,7 +58,7 @@ def _raise_ending(code: int, line: int) -> None:
         raise Ending(Status.REJECTED, "TimeLimit")
     if -code == signal.SIGKILL:
         # The system does that if it has no memory left.
-        raise OUT_OF_MEMORY
+        raise out_of_memory()
     raise Ending(Status.REJECTED, f"Crashed (signal {-code})")
 
 
@@ -71,7 +71,7 @@ def _work_and_exit(work: Callable[[], None], limits: Limits, line: int) -> NoRet
     except Ending as raised:
         ending = raised
     except MemoryError:
-        ending = OUT_OF_MEMORY
+        ending = out_of_memory()
     except BaseException as error:
         # A mistake in this program. No other part of it may go on in this process.
         ending = Ending(Status.REJECTED, f"InternalError ({type(error).__name__})")
@@ -95,7 +95,6 @@ def _set_limits(limits: Limits) -> None:
 
 def _limit(kind: int, soft: int, hard: int) -> None:
     """Sets a limit, or leaves a lower one that the caller has set."""
-    _, most = resource.getrlimit(kind)
-    if most != resource.RLIM_INFINITY:
-        soft, hard = min(soft, most), min(hard, most)
-    resource.setrlimit(kind, (soft, hard))
+    now = [limit for limit in resource.getrlimit(kind) if limit != resource.RLIM_INFINITY]
+    most = resource.getrlimit(kind)[1]
+    resource.setrlimit(kind, (min(soft, *now, hard), hard if most == resource.RLIM_INFINITY else min(hard, most)))

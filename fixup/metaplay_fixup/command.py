@@ -24,7 +24,7 @@ from .command_line import (
 from .late_catalogue import LateCatalogue
 from .one_file import Results, convert_file, empty_file
 from .proved_check import check_result
-from .statuses import CANNOT_READ, CANNOT_WRITE, OUT_OF_MEMORY, PROGRAM, Ending, Status, say
+from .statuses import CANNOT_READ, CANNOT_WRITE, PROGRAM, Ending, Status, out_of_memory, say
 from .version import VERSION
 from .whole_file import WholeFile, identity
 
@@ -44,9 +44,7 @@ class Command:
                 return _print_extra(asked)
             _check_names(asked)
         except WrongUsage as wrong:
-            say(wrong.text)
-            if wrong.shows_usage:
-                print(usage_text(), end="", file=sys.stderr)
+            say(wrong.text, usage_text() if wrong.shows_usage else "")
             return Status.WRONG_USAGE
         return self._run_all(asked)
 
@@ -78,7 +76,7 @@ class Command:
                 run_limited(lambda: convert_file(work.source, asked, catalogue, results), self.limits)
             except (OSError, MemoryError) as error:
                 # The system has no process or no memory left.
-                raise OUT_OF_MEMORY from error
+                raise out_of_memory() from error
             if asked.check is not None:
                 check_result(self.checker, results.converted, asked.check)
             _put_in_place(work.target, asked.report, results)
@@ -136,7 +134,8 @@ def _print_extra(extra: Extra) -> Status:
     try:
         sys.stdout.write(text)
         sys.stdout.flush()
-    except (OSError, ValueError):
+    except (OSError, AttributeError):
+        # There is no sys.stdout if standard output is closed.
         if extra is Extra.VERSION:
             say(CANNOT_WRITE)
             return Status.FAILED

@@ -15,7 +15,7 @@ from .convert import chord_tolerance, convert
 from .faults import Fault, FaultName
 from .layer import FontLayer
 from .report import report_lines
-from .statuses import CANNOT_READ, OUT_OF_MEMORY, Ending, Status
+from .statuses import CANNOT_READ, Ending, Status, out_of_memory
 
 LONGEST_INPUT = 1 << 28
 """A longer input isn't read, as `metaplay` does it."""
@@ -65,7 +65,7 @@ def _write(file: int, parts: Iterable[bytes]) -> None:
     except OSError as error:
         if error.errno == errno.EFBIG:
             raise Ending(Status.REJECTED, str(Fault(FaultName.TooLong, "the output or its report"))) from error
-        raise OUT_OF_MEMORY from error
+        raise out_of_memory() from error
 
 
 def empty_file(name: str) -> int:

@@ -7,7 +7,7 @@ import subprocess
 import tempfile
 
 from .command_line import Check
-from .statuses import OUT_OF_MEMORY, Ending, Status
+from .statuses import Ending, Status, out_of_memory
 
 _PREFIX = "metaplay: "
 
@@ -33,6 +33,6 @@ def check_result(program: str, file: int, check: Check) -> None:
         line = ended.stderr.decode("utf-8", "replace").strip().removeprefix(_PREFIX)
         raise Ending(Status.REJECTED, f"{line} of the result")
     if ended.returncode == Status.OUT_OF_MEMORY:
-        raise OUT_OF_MEMORY
+        raise out_of_memory()
     if ended.returncode != Status.DONE:
         raise Ending(Status.FAILED, "cannot run metaplay")

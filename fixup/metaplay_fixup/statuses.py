@@ -29,17 +29,22 @@ class Ending(Exception):
 
 CANNOT_READ = "cannot read"
 CANNOT_WRITE = "cannot write"
-OUT_OF_MEMORY = Ending(Status.OUT_OF_MEMORY, "OutOfMemory")
 
 
-def say(line: str) -> None:
-    """Writes a line to standard error, if that can be written at all.
+def out_of_memory() -> Ending:
+    """The ending of a file that needs more memory than there is."""
+    return Ending(Status.OUT_OF_MEMORY, "OutOfMemory")
 
-    The names in it may come from a hostile file, so what a terminal might take for a command is escaped.
+
+def say(line: str, more: str = "") -> None:
+    """Writes a line to standard error, if that can be written at all, and perhaps more lines as they are.
+
+    The names in the line may come from a hostile file, so what a terminal might take for a command is escaped.
     """
     try:
-        print(f"{PROGRAM}: {printable(line)}", file=sys.stderr, flush=True)
-    except (OSError, ValueError):
+        sys.stderr.write(f"{PROGRAM}: {printable(line)}\n{more}")
+        sys.stderr.flush()
+    except (OSError, AttributeError):
         # There is no other place to say it; the status tells.
         pass
 
