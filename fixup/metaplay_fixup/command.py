@@ -54,12 +54,19 @@ class Command:
         try:
             _check_folders(asked)
             if len(asked.works) > 1:
-                # Here and not in each file's process, so that it is done once.
-                catalogue.read()
+                self._read_once(catalogue)
         except Ending as ending:
             say(ending.line)
             return ending.status
         return max(self._run_one(work, asked, catalogue) for work in asked.works)
+
+    def _read_once(self, catalogue: LateCatalogue) -> None:
+        """Reads the names of fonts here and not in the process of each file.
+
+        A process under limits does it first, since a font may be as hostile as a file. Raises Ending as that does.
+        """
+        run_limited(catalogue.read, self.limits)
+        catalogue.read()
 
     def _run_one(self, work: Work, asked: CommandLine, catalogue: Catalogue) -> Status:
         try:
@@ -122,10 +129,13 @@ def _check_names(asked: CommandLine) -> None:
 
 
 def _check_folders(asked: CommandLine) -> None:
-    """Raises Ending if a folder of fonts can't be read: a wrong name would only show as a missing font."""
+    """Raises Ending if a folder isn't there: else fonts would only be missing, and each file be converted in vain."""
     for folder in asked.folders:
         if not folder.is_dir() or not os.access(folder, os.R_OK | os.X_OK):
             raise Ending(Status.FAILED, f"{CANNOT_READ} (the folder {folder})")
+    target = asked.works[0].target.parent
+    if asked.is_folder and not target.is_dir():
+        raise Ending(Status.FAILED, f"{CANNOT_WRITE} (the folder {target})")
 
 
 def _print_extra(extra: Extra) -> Status:

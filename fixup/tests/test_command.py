@@ -5,17 +5,15 @@ import sys
 import unittest
 from unittest import mock
 
-from metaplay_fixup.catalogue import Catalogue
 from metaplay_fixup.child import Limits
 from metaplay_fixup.command import Command
 from metaplay_fixup.convert import Converted, convert
 from metaplay_fixup.options import Options
 
 from .command_case import OLD, PLAIN, CommandCase, Ran, text_file
-from .oracle import ROOT, emf_file, emf_record, i32, refusal_of
+from .oracle import emf_file, emf_record, i32, refusal_of
 from .parts import places_of
 
-HELD = (ROOT / "samples/held.wmf").read_bytes()
 NOBODY = 65534
 
 
@@ -178,122 +176,6 @@ class Failed(CommandCase):
             os._exit(self.run_command(source, self.out).status)
         self.assertEqual(os.waitstatus_to_exitcode(os.waitpid(child, 0)[1]), 3)
         self.assert_untouched("a.wmf")
-
-
-class Checked(CommandCase):
-    """--check, with a script in place of `metaplay`, and with the proved program if it is there."""
-
-    PROVED = ROOT / "crates/meta_main/out/meta_main"
-
-    def checker(self, script: str) -> Command:
-        """A command whose checker is a script, which writes its words and its input down first."""
-        path = self.fonts / "metaplay"
-        path.write_text(f'#!/bin/sh\necho "$@" >"{self.fonts}/words"\ncat >"{self.fonts}/input"\n{script}\n')
-        path.chmod(0o755)
-        return Command(checker=str(path))
-
-    def check(self, command: Command, data: bytes = PLAIN, *allowed: str) -> Ran:
-        """A run with a check."""
-        words = [word for name in allowed for word in ("--allow", name)]
-        return self.run_command(self.file("a.wmf", data), self.out, "--check", "30", "40", *words, command=command)
-
-    def test_accepted(self) -> None:
-        """The checker gets the result, both sides, the profile and what is allowed."""
-        ran = self.check(self.checker("exit 0"), PLAIN, "held-deletion", "emf-plus")
-        self.assertEqual(ran, Ran(0, ""))
-        self.assertEqual((self.fonts / "input").read_bytes(), PLAIN)
-        prepare, stdin, width, height, certificate, *rest = (self.fonts / "words").read_text().split()
-        self.assertEqual((prepare, stdin, width, height), ("prepare", "stdin", "30", "40"))
-        self.assertEqual(rest, "--profile print --allow held-deletion --allow emf-plus".split())
-        self.assertFalse(os.path.exists(os.path.dirname(certificate)))
-        self.assertEqual(self.out.read_bytes(), PLAIN)
-
-    def test_rejected(self) -> None:
-        ran = self.check(self.checker("echo 'metaplay: HeldObject at record 5' >&2; exit 1"))
-        self.assertEqual(ran, Ran(1, "metaplay-fixup: HeldObject at record 5 of the result\n"))
-        self.assert_untouched("a.wmf")
-
-    def test_failed(self) -> None:
-        """A checker that runs out of memory, fails, ends by a signal, or isn't there."""
-        for script, ran in (
-            ("exit 4", Ran(4, "metaplay-fixup: OutOfMemory\n")),
-            ("exit 3", Ran(3, "metaplay-fixup: cannot run metaplay\n")),
-            ("exit 2", Ran(3, "metaplay-fixup: cannot run metaplay\n")),
-            ("exit 127", Ran(3, "metaplay-fixup: cannot run metaplay\n")),
-            ("kill -9 $$", Ran(3, "metaplay-fixup: cannot run metaplay\n")),
-        ):
-            self.assertEqual(self.check(self.checker(script)), ran)
-            self.assert_untouched("a.wmf")
-        ran = self.check(Command(checker=str(self.folder / "none")))
-        self.assertEqual(ran, Ran(3, "metaplay-fixup: cannot run metaplay\n"))
-        self.assert_untouched("a.wmf")
-
-    def test_on_the_path(self) -> None:
-        self.checker("exit 0")
-        with mock.patch.dict(os.environ, PATH=f"{self.fonts}:{os.environ['PATH']}"):
-            self.assertEqual(self.check(Command()), Ran(0, ""))
-        self.assertEqual((self.fonts / "input").read_bytes(), PLAIN)
-
-    @unittest.skipUnless(PROVED.exists(), "the proved program isn't built")
-    def test_proved_program(self) -> None:
-        command = Command(checker=str(self.PROVED))
-        self.assertEqual(self.check(command, HELD), Ran(1, "metaplay-fixup: HeldObject at record 5 of the result\n"))
-        self.assert_untouched("a.wmf")
-        self.assertEqual(self.check(command, HELD, "held-deletion"), Ran(0, ""))
-        self.assertEqual(self.out.read_bytes(), HELD)
-
-
-class Folder(CommandCase):
-    """--out-dir."""
-
-    def setUp(self) -> None:
-        super().setUp()
-        self.target = self.folder / "target"
-        self.target.mkdir()
-
-    def test_files(self) -> None:
-        """The others are written even if one is rejected. The status is that of the worst."""
-        good = [self.file("a.wmf", PLAIN), self.file("b.emf", text_file("A"))]
-        bad, missing = self.file("c.emf", text_file("C")), self.folder / "none"
-        words = ("--out-dir", self.target, "--fonts", self.fonts)
-        self.assertEqual(self.run_command(*good[:1], bad, *good[1:], *words).status, 1)
-        self.assertEqual(sorted(path.name for path in self.target.iterdir()), ["a.wmf", "b.emf"])
-        self.assertEqual((self.target / "a.wmf").read_bytes(), PLAIN)
-        ran = self.run_command(bad, missing, *good, *words)
-        lines = [f"{bad}: MissingGlyph (U+0043 in Squares) at record 4", f"{missing}: cannot read"]
-        self.assertEqual(ran, Ran(3, "".join(f"metaplay-fixup: {line}\n" for line in lines)))
-        self.assertEqual(self.run_command(*good, *words), Ran(0, ""))
-
-    def test_as_single_files(self) -> None:
-        """Each result is that of a call of its own."""
-        files = [self.file("a.emf", text_file("A")), self.file("b.emf", text_file("B"))]
-        self.assertEqual(self.run_command(*files, "--out-dir", self.target, "--fonts", self.fonts).status, 0)
-        for file in files:
-            self.assertEqual(self.run_command(file, self.out, "--fonts", self.fonts).status, 0)
-            self.assertEqual((self.target / file.name).read_bytes(), self.out.read_bytes())
-
-    def test_fonts_are_read_once(self) -> None:
-        """The names of fonts are read before the processes of the files begin."""
-        files = [self.file(name, text_file("A")) for name in ("a.emf", "b.emf", "c.emf")]
-        reading = "metaplay_fixup.late_catalogue.Catalogue.of_folders"
-        with mock.patch(reading, side_effect=Catalogue.of_folders) as reads:
-            self.assertEqual(self.run_command(*files, "--out-dir", self.target, "--fonts", self.fonts).status, 0)
-        self.assertEqual(reads.call_count, 1)
-
-    def test_names(self) -> None:
-        """Files of one name, a file in the folder itself, and two names in the folder that lead to one file."""
-        one, other = self.file("a.wmf", PLAIN), self.file("b.wmf", PLAIN)
-        ran = self.run_command(one, self.folder / "fonts/../a.wmf", "--out-dir", self.target)
-        self.assertEqual(ran, Ran(2, "metaplay-fixup: two files have the name a.wmf\n"))
-        ran = self.run_command(one, "--out-dir", self.folder)
-        self.assertEqual(ran, Ran(2, "metaplay-fixup: OUT is FILE\n"))
-        os.symlink(other, self.target / "a.wmf")
-        self.assertEqual(self.run_command(one, other, "--out-dir", self.target).status, 2)
-        os.remove(self.target / "a.wmf")
-        os.symlink("b.wmf", self.target / "a.wmf")
-        ran = self.run_command(one, other, "--out-dir", self.target)
-        self.assertEqual(ran, Ran(2, "metaplay-fixup: two files would be written to one\n"))
-        self.assertEqual(other.read_bytes(), PLAIN)
 
 
 class Limited(CommandCase):

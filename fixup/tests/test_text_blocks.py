@@ -140,6 +140,22 @@ class Emf(unittest.TestCase):
                 (place,) = converted([*opaque, text("a", 20, 30, options, box)])
                 self.assertEqual((place.count, place.records), (1, []))
 
+    def test_position_after_an_empty_clip(self) -> None:
+        """What a box hides moves the position all the same."""
+        records = [UPDATE_POSITION, *emf_script("move 5 6"), text("ab", 90, 90, 4, (5, 5, 5, 5))]
+        (place,) = converted([*records, *emf_script("line 9 9")])
+        self.assertEqual(place.records, [emf_record(27, i32(25, 6))])
+
+    def test_opaque_clip(self) -> None:
+        """The box is filled, and then the text, both clipped by the box."""
+        (place,) = converted([*emf_script("back_colour 0x00ff00"), text("a", 20, 30, 6, (25, 30, 40, 40))])
+        origin = (25, 30)
+        fill = emf_record(86, i32(25, 30, 40, 40) + u32(4) + i16(0, 0, 15360, 0, 15360, 10240, 0, 10240))
+        change = [emf_record(37, u32(0x80000005)), emf_record(40, u32(4))]
+        drawn = [*brush(0xFF00), fill, *change, *brush(0), square(20, 30, origin), *END]
+        clip = emf_record(30, i32(0, 0, 15 * PARTS, 10 * PARTS))
+        self.assertEqual(place.records, [emf_record(33), *map_to(25, 30), clip, *SETTINGS, *drawn])
+
     def test_turned_empty_clip(self) -> None:
         """A turned box without an area clips everything too."""
         places = converted([world(0, 1, -1, 0, 90, 0), text("a", 20, 30, 4, (20, 30, 20, 90))])
