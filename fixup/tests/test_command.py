@@ -2,7 +2,9 @@
 
 import os
 import sys
+import tempfile
 import unittest
+from pathlib import Path
 from unittest import mock
 
 from metaplay_fixup.child import Limits
@@ -40,6 +42,15 @@ class Done(CommandCase):
         source = self.file("a.wmf", PLAIN)
         with mock.patch("metaplay_fixup.late_catalogue.Catalogue.of_folders", side_effect=AssertionError):
             self.assertEqual(self.run_command(source, self.out, "--fonts", self.fonts), Ran(0, ""))
+
+    def test_open_files(self) -> None:
+        """No file stays open, whatever a run ends with."""
+        good, bad = self.file("a.wmf", PLAIN), self.file("b.emf", text_file("C"))
+        before = os.listdir("/proc/self/fd")
+        for source in (good, bad, self.folder / "none"):
+            for target in (self.out, self.fonts, Path(os.devnull)):
+                self.run_command(source, target, "--report", self.folder / "report")
+        self.assertEqual(os.listdir("/proc/self/fd"), before)
 
     def test_standard_input(self) -> None:
         with open(self.file("a.wmf", PLAIN), encoding="latin-1") as stream, mock.patch.object(sys, "stdin", stream):
@@ -165,17 +176,28 @@ class Failed(CommandCase):
             self.assert_untouched("a.wmf", "report")
 
     @unittest.skipIf(os.geteuid(), "only root can become somebody else")
-    def test_unwritable_folder(self) -> None:
-        """In a folder of somebody else OUT stays, even if it could be written itself."""
+    def test_folders_of_somebody_else(self) -> None:
+        """In an unwritable folder OUT stays, even if it could be written itself. A folder of fonts must be readable."""
         source = self.file("a.wmf", PLAIN)
         self.folder.chmod(0o755)
         self.out.chmod(0o666)
-        child = os.fork()
-        if child == 0:
-            os.setuid(NOBODY)
-            os._exit(self.run_command(source, self.out).status)
-        self.assertEqual(os.waitstatus_to_exitcode(os.waitpid(child, 0)[1]), 3)
-        self.assert_untouched("a.wmf")
+        self.fonts.chmod(0o700)
+        lines = ["cannot write", f"cannot read (the folder {self.fonts})"]
+        for line, *words in (lines[:1], [lines[1], "--fonts", str(self.fonts)]):
+            self.assertEqual(self.run_as_nobody(source, self.out, *words), Ran(3, f"metaplay-fixup: {line}\n"))
+            self.assert_untouched("a.wmf")
+
+    def run_as_nobody(self, *words: str | Path) -> Ran:
+        """Runs the command in a process that isn't root's."""
+        with tempfile.TemporaryFile() as error:
+            child = os.fork()
+            if child == 0:
+                os.setuid(NOBODY)
+                ran = self.run_command(*words)
+                os.write(error.fileno(), ran.error.encode())
+                os._exit(ran.status)
+            status = os.waitstatus_to_exitcode(os.waitpid(child, 0)[1])
+            return Ran(status, os.pread(error.fileno(), 1000, 0).decode())
 
 
 class Limited(CommandCase):
