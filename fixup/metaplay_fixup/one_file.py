@@ -7,6 +7,7 @@ import os
 import sys
 from collections.abc import Iterable
 from dataclasses import dataclass
+from typing import BinaryIO
 
 from .catalogue import Catalogue
 from .choice import FontChooser
@@ -19,6 +20,7 @@ from .statuses import CANNOT_READ, Ending, Status, out_of_memory
 
 LONGEST_INPUT = 1 << 28
 """A longer input isn't read, as `metaplay` does it."""
+_PART = 1 << 20
 
 
 @dataclass(frozen=True, slots=True)
@@ -46,16 +48,24 @@ def convert_file(source: str, asked: CommandLine, catalogue: Catalogue, results:
 def _read(source: str) -> bytes:
     try:
         if source == STANDARD_INPUT:
-            data = sys.stdin.buffer.read(LONGEST_INPUT + 1)
-        else:
-            with open(source, "rb") as stream:
-                data = stream.read(LONGEST_INPUT + 1)
+            return _all_of(sys.stdin.buffer)
+        with open(source, "rb") as stream:
+            return _all_of(stream)
     except (OSError, AttributeError) as error:
         # There is no sys.stdin if standard input is closed.
         raise Ending(Status.FAILED, CANNOT_READ) from error
-    if len(data) > LONGEST_INPUT:
+
+
+def _all_of(stream: BinaryIO) -> bytes:
+    """All bytes of a stream, in parts, since one read takes memory for as many bytes as it asks for."""
+    parts: list[bytes] = []
+    length = 0
+    while length <= LONGEST_INPUT and (part := stream.read(_PART)):
+        parts.append(part)
+        length += len(part)
+    if length > LONGEST_INPUT:
         raise Ending(Status.FAILED, CANNOT_READ)
-    return data
+    return b"".join(parts)
 
 
 def _write(file: int, parts: Iterable[bytes]) -> None:

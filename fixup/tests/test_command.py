@@ -214,10 +214,16 @@ class Limited(CommandCase):
     def test_memory(self) -> None:
         """An input that doesn't fit into the addresses that the process may have."""
         source = self.file("a.wmf", PLAIN)
-        os.truncate(source, 200 << 20)
-        command = Command(limits=Limits(memory=150 << 20))
+        os.truncate(source, 256 << 20)
+        command = Command(limits=Limits(memory=500 << 20))
         self.assertEqual(self.run_command(source, self.out, command=command), Ran(4, "metaplay-fixup: OutOfMemory\n"))
         self.assert_untouched("a.wmf")
+
+    def test_little_memory(self) -> None:
+        """A small file needs at most 16 MiB more than the process has at its begin."""
+        size = int(Path("/proc/self/statm").read_text().split()[0]) * os.sysconf("SC_PAGE_SIZE")
+        command = Command(limits=Limits(memory=size + (16 << 20)))
+        self.assertEqual(self.run_command(self.file("a.wmf", PLAIN), self.out, command=command), Ran(0, ""))
 
     def test_output(self) -> None:
         """An output that is longer than a file may be, as is a report."""
