@@ -7,6 +7,7 @@ from unittest import mock
 from metaplay_fixup.catalogue import Catalogue
 from metaplay_fixup.child import Limits
 from metaplay_fixup.command import Command
+from metaplay_fixup.late_catalogue import LateCatalogue
 
 from .command_case import PLAIN, CommandCase, Ran, text_file
 
@@ -77,6 +78,19 @@ class Folder(CommandCase):
         ran = self.run_command(one, other, "--out-dir", self.target)
         self.assertEqual(ran, Ran(2, "metaplay-fixup: two files would be written to one\n"))
         self.assertEqual(other.read_bytes(), PLAIN)
+
+
+class Late(CommandCase):
+    """A catalogue that is read when it is needed."""
+
+    def test_read_once(self) -> None:
+        with mock.patch.object(Catalogue, "of_folders", side_effect=Catalogue.of_folders) as reads:
+            late = LateCatalogue([self.fonts])
+            self.assertEqual(reads.call_count, 0)
+            for _ in range(2):
+                self.assertEqual([file.path.name for file in late.named("SQUARES")], ["squares.ttf"])
+                self.assertEqual(late.named("Nowhere"), ())
+        self.assertEqual(reads.call_count, 1)
 
 
 def _for_ever() -> None:

@@ -132,6 +132,13 @@ class Emf(unittest.TestCase):
         (place,) = converted([text("a", 20, 30, 4, (20, 30, 30, 40))])
         self.assertEqual(len(place.records), 14)
 
+    def test_clipped_line_and_background(self) -> None:
+        """The letter is in its box, but its underline isn't, or the background of the blank behind it."""
+        clip = emf_record(30, i32(0, 0, 10 * PARTS, 10 * PARTS))
+        for before, string in ((font(10, 1, 2), "a"), (emf_script("back_mode 2"), "a ")):
+            (place,) = converted([*before, text(string, 20, 30, 4, (20, 30, 30, 40))])
+            self.assertEqual(place.records[6], clip)
+
     def test_empty_clip(self) -> None:
         """A box without an area clips everything: text, background and the box itself."""
         opaque = emf_script("back_mode 2")
