@@ -13,6 +13,9 @@
 - the output: `output`, `marks`, `budgets`
 - blocks: `text_blocks`, `emf_blocks`, `wmf_blocks`
 - what happens to each record: `session`, `steps`, and the modules that begin with `emf` and `wmf`
+- the command: `command`, `command_line`, `statuses`, `version`, `one_file`, `child` with its limits, `late_catalogue`,
+  `proved_check`, `report`, `whole_file`
 
-No module but those of the last two groups knows these.
+No other module knows those of the blocks and of what happens to each record, but `convert`; and none knows the
+command's.
 """

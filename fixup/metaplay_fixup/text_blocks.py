@@ -7,11 +7,11 @@ from dataclasses import dataclass
 from typing import NamedTuple
 
 from .affine import Contour, Point
-from .faults import Fault, FaultName
 from .output import Entry
-from .shapes import corners_of, fixed_bounds
+from .shapes import corners_of
 from .state import State
-from .text import CLIPPED_BOX, OPAQUE_BOX, Box, Colour, LaidText, TextRecord
+from .text import Box, Colour, LaidText, TextRecord
+from .text_boxes import clip_box, clips_all, opaque_box
 
 
 class Fill(NamedTuple):
@@ -64,37 +64,12 @@ def ink(laid: LaidText, colour: Colour) -> list[Fill]:
 def text_fills(laid: LaidText, record: TextRecord, state: State) -> TextFills:
     """What a text draws: the record's opaque box, the text's background, and the text.
 
-    Raises Fault ClipShape if the text must be clipped by a turned box.
+    There is nothing of it if a box without an area clips it. Raises Fault ClipShape if the text must be clipped by a
+    turned box.
     """
-    fills: list[Fill] = []
-    box = None if record.box is None else [state.device.apply(corner) for corner in corners_of(record.box)]
-    if box is not None and record.options & OPAQUE_BOX and _has_area(record.box):
-        fills.append(Fill(state.background, [box]))
-    if laid.background is not None:
-        fills.append(Fill(state.background, [laid.background]))
-    fills += ink(laid, state.text_colour)
-    clip = None
-    if box is not None and record.options & CLIPPED_BOX:
-        clip = _clip(box, fills, state.device.is_straight())
-    return TextFills(fills, clip)
-
-
-def _has_area(box: Box | None) -> bool:
-    return box is not None and box.left != box.right and box.top != box.bottom
-
-
-def _clip(corners: Sequence[Point], fills: Sequence[Fill], is_straight: bool) -> Box | None:
-    """The box that clips the fills, or None if they are all within it or it is empty."""
-    points = [point for fill in fills for contour in fill.contours for point in contour]
-    box = fixed_bounds(corners)
-    if not points or not (box.left < box.right and box.top < box.bottom):
-        return None
-    drawn = fixed_bounds(points)
-    is_within = (
-        box.left <= drawn.left and drawn.right <= box.right and box.top <= drawn.top and drawn.bottom <= box.bottom
-    )
-    if is_within:
-        return None
-    if not is_straight:
-        raise Fault(FaultName.ClipShape, "text is clipped by a turned box")
-    return box
+    page = state.page_to_device()
+    if clips_all(record, page):
+        return TextFills([], None)
+    boxes = [box for box in (opaque_box(record, page), laid.background) if box is not None]
+    fills = [*(Fill(state.background, [box]) for box in boxes), *ink(laid, state.text_colour)]
+    return TextFills(fills, clip_box(record, laid, page))

@@ -4,45 +4,55 @@ from __future__ import annotations
 
 from .affine import Contour, Point
 from .faults import Fault, FaultName
+from .shapes import corners_of
 from .text import CLIPPED_BOX, OPAQUE_BOX, Box, LaidText, PageToDevice, TextRecord
 
 
 def opaque_box(record: TextRecord, page: PageToDevice) -> Contour | None:
     """The box that the record fills with the background's colour, in fixed device units, or None. It may be turned."""
-    if record.box is None or not record.options & OPAQUE_BOX:
-        return None
-    box = record.box
-    if box.left == box.right or box.top == box.bottom:
-        return None
-    return _corners(box, page)
+    corners = _corners(record, page, OPAQUE_BOX)
+    return corners if corners is not None and _has_area(corners) else None
+
+
+def clips_all(record: TextRecord, page: PageToDevice) -> bool:
+    """Whether the record clips its text by a box without an area, so that nothing of it shows."""
+    corners = _corners(record, page, CLIPPED_BOX)
+    return corners is not None and not _has_area(corners)
 
 
 def clip_box(record: TextRecord, laid: LaidText, page: PageToDevice) -> Box | None:
     """The box that the text must be clipped by, in fixed device units with its sides sorted.
 
-    It is None if there is none or all of the text lies in it.
+    It is None if there is none or all of the text lies in it. A box without an area clips all of the text, and has no
+    area here either.
 
-    A box without an area clips all of the text.
-
-    Raises Fault with ClipShape if the box is turned and some of the text lies outside.
+    Raises Fault with ClipShape if the box is turned, has an area, and some of the text lies outside.
     """
-    if record.box is None or not record.options & CLIPPED_BOX:
+    corners = _corners(record, page, CLIPPED_BOX)
+    if corners is None:
         return None
-    box = record.box
-    corners = _corners(box, page)
-    has_area = box.left != box.right and box.top != box.bottom
     points = [point for contour in laid.glyphs + laid.lines + [laid.background or []] for point in contour]
+    has_area = _has_area(corners)
     if has_area and all(_is_inside(point, corners) for point in points):
         return None
     if not page.affine.is_straight():
-        raise Fault(FaultName.ClipShape, "a turned box clips text")
+        if has_area:
+            raise Fault(FaultName.ClipShape, "a turned box clips text")
+        corners = corners[:1]
     xs, ys = sorted(corner.x for corner in corners), sorted(corner.y for corner in corners)
     return Box(xs[0], ys[0], xs[-1], ys[-1])
 
 
-def _corners(box: Box, page: PageToDevice) -> Contour:
-    corners = ((box.left, box.top), (box.right, box.top), (box.right, box.bottom), (box.left, box.bottom))
-    return [page.affine.apply(Point(x, y)) for x, y in corners]
+def _corners(record: TextRecord, page: PageToDevice, option: int) -> Contour | None:
+    """The corners of the record's box if it has one for this option."""
+    if record.box is None or not record.options & option:
+        return None
+    return [page.affine.apply(corner) for corner in corners_of(record.box)]
+
+
+def _has_area(corners: Contour) -> bool:
+    """Whether a parallelogram has an area. A box may lose its own on a page that shrinks it."""
+    return _side(corners[3], corners[0], corners[1]) != 0
 
 
 def _is_inside(point: Point, corners: Contour) -> bool:

@@ -126,12 +126,52 @@ class Emf(unittest.TestCase):
         self.assertEqual(place.records, expected)
 
     def test_clipped(self) -> None:
-        """A text that isn't in its box is clipped by it; one that is, or an empty box, needs no clip."""
+        """A text that isn't in its box is clipped by it; one that is needs no clip."""
         (place,) = converted([text("a", 20, 30, 4, (25, 30, 40, 40))])
         self.assertEqual(place.records[6], emf_record(30, i32(5 * PARTS, 0, 20 * PARTS, 10 * PARTS)))
-        for box in ((20, 30, 30, 40), (5, 5, 5, 5)):
-            (place,) = converted([text("a", 20, 30, 4, box)])
-            self.assertEqual(len(place.records), 14)
+        (place,) = converted([text("a", 20, 30, 4, (20, 30, 30, 40))])
+        self.assertEqual(len(place.records), 14)
+
+    def test_clipped_line_and_background(self) -> None:
+        """The letter is in its box, but its underline isn't, or the background of the blank behind it."""
+        clip = emf_record(30, i32(0, 0, 10 * PARTS, 10 * PARTS))
+        for before, string in ((font(10, 1, 2), "a"), (emf_script("back_mode 2"), "a ")):
+            (place,) = converted([*before, text(string, 20, 30, 4, (20, 30, 30, 40))])
+            self.assertEqual(place.records[6], clip)
+
+    def test_empty_clip(self) -> None:
+        """A box without an area clips everything: text, background and the box itself."""
+        opaque = emf_script("back_mode 2")
+        for box in ((5, 5, 5, 5), (20, 30, 20, 40), (20, 30, 30, 30)):
+            for options in (4, 6):
+                (place,) = converted([*opaque, text("a", 20, 30, options, box)])
+                self.assertEqual((place.count, place.records), (1, []))
+
+    def test_position_after_an_empty_clip(self) -> None:
+        """What a box hides moves the position all the same."""
+        records = [UPDATE_POSITION, *emf_script("move 5 6"), text("ab", 90, 90, 4, (5, 5, 5, 5))]
+        (place,) = converted([*records, *emf_script("line 9 9")])
+        self.assertEqual(place.records, [emf_record(27, i32(25, 6))])
+
+    def test_opaque_clip(self) -> None:
+        """The box is filled, and then the text, both clipped by the box."""
+        (place,) = converted([*emf_script("back_colour 0x00ff00"), text("a", 20, 30, 6, (25, 30, 40, 40))])
+        origin = (25, 30)
+        fill = emf_record(86, i32(25, 30, 40, 40) + u32(4) + i16(0, 0, 15360, 0, 15360, 10240, 0, 10240))
+        change = [emf_record(37, u32(0x80000005)), emf_record(40, u32(4))]
+        drawn = [*brush(0xFF00), fill, *change, *brush(0), square(20, 30, origin), *END]
+        clip = emf_record(30, i32(0, 0, 15 * PARTS, 10 * PARTS))
+        self.assertEqual(place.records, [emf_record(33), *map_to(25, 30), clip, *SETTINGS, *drawn])
+
+    def test_turned_empty_clip(self) -> None:
+        """A turned box without an area clips everything too."""
+        places = converted([world(0, 1, -1, 0, 90, 0), text("a", 20, 30, 4, (20, 30, 20, 90))])
+        self.assertEqual([place.records for place in places], [[]])
+
+    def test_shrunk_clip(self) -> None:
+        """A box that the world shrinks to a point clips everything."""
+        places = converted([world(2**-30, 0, 0, 2**-30, 50, 50), text("a", 20, 30, 4, (0, 0, 100, 100))])
+        self.assertEqual([place.records for place in places], [[]])
 
     def test_turned_clip(self) -> None:
         """A turned box can't clip."""
@@ -139,6 +179,23 @@ class Emf(unittest.TestCase):
         with self.assertRaises(Fault) as raised:
             convert(data, Options(), Squares())
         self.assertEqual((raised.exception.name, raised.exception.record), (FaultName.ClipShape, 5))
+
+    def test_turned_clip_within_bounds(self) -> None:
+        """A box turned by 45 degrees: text that lies within its bounds, but not in the box, is rejected too.
+
+        The world takes (x, y) to (x - y + 50, x + y). The box becomes a diamond with the corners (50, 0), (70, 20),
+        (50, 40) and (30, 20), and the text's square one with the corners (35, 5), (39, 9), (35, 13) and (31, 9).
+        """
+        turned = [*font(4, index=2), world(1, 1, -1, 1, 50, 0)]
+        with self.assertRaises(Fault) as raised:
+            convert(emf_file([*TRANSPARENT, *turned, text("a", -5, 10, 4, (0, 0, 20, 20))]), Options(), Squares())
+        self.assertEqual((raised.exception.name, raised.exception.record), (FaultName.ClipShape, 5))
+
+    def test_turned_box_around_text(self) -> None:
+        """Text within a turned box needs no clip."""
+        (place,) = converted([world(1, 1, -1, 1, 50, 0), text("a", 5, 5, 4, (0, 0, 20, 20))])
+        kinds = [number(record, 0) for record in place.records]
+        self.assertEqual((kinds.count(86), kinds.count(30)), (1, 0))
 
     def test_position(self) -> None:
         """Text that moves the position begins there, and a line after it begins at its end."""
@@ -276,6 +333,11 @@ class Wmf(unittest.TestCase):
         record = wmf_record(0x0A32, i16(30, 20, 1, 4) + i16(25, 30, 40, 40) + b"a\0")
         (place,) = self.converted([record])
         self.assertEqual(place.records[3], wmf_record(0x0416, i16(2560, 5120, 0, 1280)))
+
+    def test_empty_clip(self) -> None:
+        """A box without an area clips everything."""
+        (place,) = self.converted([wmf_record(0x0A32, i16(30, 20, 1, 4) + i16(25, 30, 25, 40) + b"a\0")])
+        self.assertEqual(place.records, [])
 
     def test_position(self) -> None:
         """Text that moves the position begins there, and a line after it begins at its end."""

@@ -88,6 +88,10 @@ class Clips(MadeFolder):
         self.assertEqual(self.clip(Box(100, 150, 100, 200)), Box(100, 150, 100, 200))
         self.assertEqual(self.clip(Box(0, 0, 0, 0)), Box(0, 0, 0, 0))
 
+    def test_turned_box_without_an_area(self) -> None:
+        """It is a point, that of its first corner, which the world takes to (0 - 150, 0 + 150)."""
+        self.assertEqual(self.clip(Box(0, 150, 0, 400), Affine(1, 1, -1, 1, 0, 0)), Box(-150, 150, -150, 150))
+
     def test_box_on_a_page_that_points_up(self) -> None:
         case = Case().with_record(options=CLIPPED_BOX, box=Box(100, -200, 150, -150), reference=Point(100, -200))
         case = case.on(page_of(Point(1, -1), Point(1, 1)))
