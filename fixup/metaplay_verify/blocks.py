@@ -16,6 +16,8 @@ from .texts import TEXTS, Stage, Text, slack, text_of
 
 _NULL_PEN, _NULL_BRUSH = 0x80000008, 0x80000005
 _FINEST_PARTS, _FINEST_FACTOR = 4096, 256
+# A text fills its box, its cell, its glyphs, its underline and its strike-out.
+_MOST_FILLS = 5
 
 
 def _emf(kind: int, code: str = "", *numbers: float) -> bytes:
@@ -96,6 +98,8 @@ class _Blocks:
         records = self.reader.file.records[first : first + count]
         if not records or any(self.reader.file.kind(record) not in TEXTS for record in records):
             raise Refused("a place stands for other records than text", self.place.begin - 1)
+        if self.reader.is_in_path:
+            raise Refused("a place stands in an open path", self.place.begin - 1)
         position = self.reader.state.position
         if self.reader.state.align & 1 and not all(map(math.isfinite, position)):
             raise Refused("where the text begins isn't known", self.place.begin - 1)
@@ -231,35 +235,37 @@ class _Blocks:
     def _match(self, fills: list[Fill], clip: Area | None, is_shared: bool) -> None:
         """Finds the texts that a block draws: one, or several if they share it. Raises Refused if there are none."""
         if is_shared and fills:
-            matched = self._matched(fills, self.next, len(self.stages), clip)
-            text = self.stages[matched - 1].text if matched else -1
+            taken, end = self._taken(fills, self.next, len(self.stages), clip)
+            if taken < len(fills):
+                raise self._refusal(fills[taken : taken + 1], clip)
+            text = self.stages[end - 1].text
         else:
             text = self._one_text(fills, clip)
-        if text < 0:
-            raise self._refusal(fills, clip)
         self.next_text = text + 1
         while self.next < len(self.stages) and self.stages[self.next].text < self.next_text:
             self.next += 1
 
     def _one_text(self, fills: list[Fill], clip: Area | None) -> int:
-        """The next text that draws all fills of a block, or -1."""
+        """The next text that draws all fills of a block."""
         start = self.next
         for text in range(self.next_text, len(self.texts)):
             end = start + len(self.texts[text].stages)
-            if self._matched(fills, start, end, clip) or not fills:
+            if self._taken(fills, start, end, clip)[0] == len(fills):
                 return text
             start = end
-        return -1
+        raise self._refusal(fills[:_MOST_FILLS], clip)
 
-    def _matched(self, fills: list[Fill], start: int, end: int, clip: Area | None) -> int:
-        """Takes for each fill the first stage that it may be, in order: the end of the last, or 0 if one has none."""
-        for fill in fills:
+    def _taken(self, fills: list[Fill], start: int, end: int, clip: Area | None) -> tuple[int, int]:
+        """Takes for each fill the first stage that it may be, in order: how many fills have one, and the end of the
+        last.
+        """
+        for taken, fill in enumerate(fills):
             while start < end and not self._may_be(fill, self.stages[start], clip):
                 start += 1
             if start == end:
-                return 0
+                return taken, start
             start += 1
-        return start
+        return len(fills), start
 
     def _may_be(self, fill: Fill, stage: Stage, clip: Area | None) -> bool:
         is_alike = fill.colour == stage.colour and (fill.is_box or not stage.is_box)
@@ -294,6 +300,8 @@ def check_blocks(original: Metafile, places: list[Place]) -> None:
     for place in places:
         for record in original.records[done : place.first]:
             _see(reader, record)
+        if handle in reader.beyond:
+            raise Refused("the original itself uses the index of a block's brush", place.begin - 1)
         blocks = _Blocks(place, reader, handle, parts)
         blocks.check()
         done, parts = place.first + place.count, blocks.parts

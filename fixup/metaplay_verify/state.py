@@ -23,6 +23,7 @@ class Font(NamedTuple):
     strike_out: bool = False
 
 
+_LARGEST = 1 << 31
 _IDENTITY = (1.0, 0.0, 0.0, 1.0, 0.0, 0.0)
 _METRIC = {2: (1, 1), 3: (10, 1), 4: (100, 254), 5: (1000, 254), 6: (1440, 254)}
 
@@ -70,12 +71,17 @@ class State:
 
 
 class Reader:
-    """Follows the state through an original's records."""
+    """Follows the state through an original's records.
+
+    `beyond` are the indexes that an EMF gives to objects although its header doesn't count them.
+    """
 
     def __init__(self, file: Metafile) -> None:
         self.file = file
         self.state = State()
         self.slots = Slots()
+        self.is_in_path = False
+        self.beyond: set[int] = set()
         self._saved: list[State] = []
         self._objects: dict[int, Font | tuple[int, ...]] = {}
         header = file.records[0] if file.is_emf else file.head
@@ -112,7 +118,11 @@ class Reader:
     def _see_long(self, kind: int, record: bytes) -> None:
         """Records of EMF with more than numbers: objects and lists of lines."""
         index = number(record, 8)
-        if kind in (38, 39, 49, 82, 93, 94, 95) and 0 < index < self._handles:
+        if kind in (38, 39, 49, 82, 93, 94, 95) and index >= self._handles:
+            self.beyond.add(index)
+        elif kind in (59, 60, 68):
+            self.is_in_path = kind == 59
+        elif kind in (38, 39, 49, 82, 93, 94, 95) and 0 < index < self._handles:
             self._objects.pop(index, None)
             if kind == 82 and len(record) >= 104:
                 height, width, escapement, orientation = struct.unpack_from("<4i", record, 12)
@@ -164,7 +174,7 @@ class Reader:
             state.window, state.viewport = (10 * wide * units, 10 * high * units), (width * tenths, -height * tenths)
 
     def _set_extent(self, name: str, x: int, y: int) -> None:
-        if self.state.mode in (7, 8) and x and y:
+        if self.state.mode in (7, 8) and x and y and max(abs(x), abs(y)) <= _LARGEST:
             self._set(name, (x, y))
 
     def _scale(self, name: str, x: int, x_divisor: int, y: int, y_divisor: int) -> None:

@@ -5,7 +5,7 @@ from __future__ import annotations
 from dataclasses import dataclass
 
 from .blocks import check_blocks
-from .files import Refused, Unreadable, read
+from .files import Metafile, Refused, Unreadable, read
 from .headers import check_header
 from .kinds import name_of
 from .places import places_of
@@ -39,13 +39,10 @@ def verify(original: bytes, fixed: bytes, text_only: bool) -> Verdict:
     Headers may differ in counts and sizes, which must be right. With `text_only` also all marked places must stand for
     text, and only draw it. Raises Unreadable if one of the files can't be read.
     """
-    try:
-        old = read(original)
-    except Unreadable as error:
-        raise Unreadable(f"the original: {error}") from None
+    old = _read(original, "the original")
     if original == fixed:
         return Verdict(True)
-    new = read(fixed)
+    new = _read(fixed, "the fixed file")
     try:
         if old.is_emf != new.is_emf or len(old.head) != len(new.head):
             raise Refused("the files have different forms")
@@ -58,3 +55,10 @@ def verify(original: bytes, fixed: bytes, text_only: bool) -> Verdict:
     numbers = [at for place in places for at in range(place.first, place.first + place.count)]
     replaced = tuple(Replaced(at, name_of(old.is_emf, old.kind(old.records[at]))) for at in numbers)
     return Verdict(True, "", None, replaced, len(places))
+
+
+def _read(data: bytes, name: str) -> Metafile:
+    try:
+        return read(data)
+    except Unreadable as error:
+        raise Unreadable(f"{name}: {error}") from None
