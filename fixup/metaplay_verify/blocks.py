@@ -12,12 +12,14 @@ from .files import Metafile, Refused, kind_of, number
 from .places import Place
 from .shapes import is_polygons, read_polygons
 from .state import Reader, State
-from .texts import TEXTS, Stage, Text, slack, text_of
+from .texts import TEXTS, Stage, Text, text_of
 
 _NULL_PEN, _NULL_BRUSH = 0x80000008, 0x80000005
 _FINEST_PARTS, _FINEST_FACTOR = 4096, 256
 # A text fills its box, its cell, its glyphs, its underline and its strike-out.
 _MOST_FILLS = 5
+# How far numbers with fractions may be off, in device units.
+_ROUNDING = 0.01
 
 
 def _emf(kind: int, code: str = "", *numbers: float) -> bytes:
@@ -50,6 +52,7 @@ class _Blocks:
         self.texts = self._read_texts()
         self.stages = [stage for text in self.texts for stage in text.stages]
         self.reach = tuple(max((text.reach[axis] for text in self.texts), default=0.0) for axis in (0, 1))
+        self.unit = (1.0, 1.0)
         self.next = self.next_text = 0
         self.at = 0
 
@@ -151,6 +154,7 @@ class _Blocks:
         x, y = self.numbers(12, "ii", "sets the viewport's origin")
         self.want(_emf(11, "ii", 1, 1), "sets the viewport's extent")
         page, clip = State(8, (0, 0), (parts, parts), (x, y), (1, 1)), None
+        self._count_in(page)
         if kind_of(True, self.peek()) == 30:
             clip = _on_device(page, Area(*self.numbers(30, "4i", "clips")))
         self.want(_emf(19, "I", 2), "sets the fill mode")
@@ -187,6 +191,7 @@ class _Blocks:
         if not all(rest == 0 and 1 <= factor <= _FINEST_FACTOR for factor, rest in factors):
             raise Refused("a block's window isn't the page's, made finer", self.here - 1)
         page, clip = replace(state, window_origin=(x, y), window=(wide, high)), None
+        self._count_in(page)
         if kind_of(False, self.peek()) == 0x0416:
             bottom, right, top, left = self.numbers(0x0416, "4h", "clips")
             clip = _on_device(page, Area(left, top, right, bottom))
@@ -212,6 +217,11 @@ class _Blocks:
         if before is not None:
             self.want(_wmf(0x01F0, "H", before), "deletes a brush")
         return self._fills(page, colour)
+
+    def _count_in(self, page: State) -> None:
+        """Takes the unit of a block: how far its numbers may be off, in device units, since they are rounded."""
+        across, down = page.scales
+        self.unit = (across + _ROUNDING, down + _ROUNDING)
 
     def _check_colour(self, colour: int) -> None:
         if colour not in (self.reader.state.text_colour, self.reader.state.back_colour):
@@ -273,19 +283,23 @@ class _Blocks:
 
     def _is_within(self, fill: Fill, stage: Stage, clip: Area | None) -> bool:
         """Whether a fill lies in a text's box. A text that is clipped lies in its clip, or the block has that clip."""
-        text, off = self.texts[stage.text], slack(self.reader.state, self.is_emf)
-        if not (stage.area.holds(fill.area) and stage.area.grown(1, 1).holds(fill.bounds)):
+        text = self.texts[stage.text]
+        box = stage.area.grown(*self.unit)
+        is_placed = box.holds(fill.area) and box.grown(1, 1).holds(fill.bounds)
+        if not is_placed or (stage.is_whole and not fill.area.grown(*self.unit).holds(stage.area)):
             return False
         if text.clip is None or clip is None:
-            return clip is None and (text.clip is None or text.clip.grown(*off).holds(fill.area))
-        return text.clip.grown(*off).holds(clip) and clip.grown(*off).holds(text.clip)
+            return clip is None and (text.clip is None or text.clip.grown(*self.unit).holds(fill.area))
+        return text.clip.grown(*self.unit).holds(clip) and clip.grown(*self.unit).holds(text.clip)
 
     def _refusal(self, fills: list[Fill], clip: Area | None) -> Refused:
         """Why a block's fills can't be the next texts'."""
         for fill in fills:
             stages = [stage for stage in self.stages[self.next :] if stage.colour == fill.colour]
             if stages and not any(self._is_within(fill, stage, clip) for stage in stages):
-                return Refused("a polygon lies outside of the text's box, or has a wrong clip", fill.here)
+                return Refused(
+                    "a polygon lies outside of the text's box, or doesn't fit it, or has a wrong clip", fill.here
+                )
         return Refused("a block draws more than its text has", fills[-1].here if fills else self.here - 1)
 
 

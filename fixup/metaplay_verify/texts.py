@@ -19,11 +19,12 @@ _WIDE = 4
 
 
 class Stage(NamedTuple):
-    """One fill of a text: its colour, whether it is one quadrangle, and its box."""
+    """One fill of a text: its colour, whether it is one quadrangle, whether it has all of its box, and that box."""
 
     text: int
     colour: int
     is_box: bool
+    is_whole: bool
     area: Area
 
 
@@ -46,11 +47,6 @@ class _Fields(NamedTuple):
     distances: tuple[int, int] | None
 
 
-def slack(state: State, is_emf: bool) -> tuple[float, float]:
-    """How far rounding may move a point, in device units: blocks of WMF may count in page units."""
-    return (1.0, 1.0) if is_emf else state.scales
-
-
 def text_of(record: bytes, reader: Reader, place: int, position: Area) -> Text:
     """What a text may draw under the reader's state. `position` is where the position may be on the page.
 
@@ -60,19 +56,18 @@ def text_of(record: bytes, reader: Reader, place: int, position: Area) -> Text:
     state = reader.state
     reach = _reach(fields, state)
     start = position if state.align & 1 else Area(fields.x, fields.y, fields.x, fields.y)
-    off = slack(state, reader.file.is_emf)
-    area = around([state.device(point) for point in corners(start)]).grown(*reach).grown(*off)
+    area = around([state.device(point) for point in corners(start)]).grown(*reach)
     rect, has_area = area, False
     if fields.options & (_FILLED | _CLIPPED):
         rect = around([state.device(point) for point in corners(Area(*fields.box))])
         has_area = fields.box[0] != fields.box[2] and fields.box[1] != fields.box[3]
     both = _FILLED | _CLIPPED
-    stages = [Stage(place, state.back_colour, True, rect.grown(*off))] if fields.options & _FILLED and has_area else []
+    stages = [Stage(place, state.back_colour, True, True, rect)] if fields.options & _FILLED and has_area else []
     if state.back_mode == 2 and fields.options & both != both:
-        stages.append(Stage(place, state.back_colour, True, area))
-    stages.append(Stage(place, state.text_colour, False, area))
+        stages.append(Stage(place, state.back_colour, True, False, area))
+    stages.append(Stage(place, state.text_colour, False, False, area))
     lines = state.font.underline + state.font.strike_out
-    stages += [Stage(place, state.text_colour, True, area)] * lines
+    stages += [Stage(place, state.text_colour, True, False, area)] * lines
     return Text(stages, rect if has_area and fields.options & _CLIPPED else None, reach)
 
 
