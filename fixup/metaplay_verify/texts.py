@@ -8,7 +8,8 @@ from typing import NamedTuple
 
 from .areas import Area, around, corners
 from .files import number
-from .state import Reader, State
+from .reading import Reader
+from .state import State
 
 TEXTS = {83, 84, 108, 0x0521, 0x0A32}
 """EMR_EXTTEXTOUTA, EMR_EXTTEXTOUTW, EMR_SMALLTEXTOUT; META_TEXTOUT, META_EXTTEXTOUT."""
