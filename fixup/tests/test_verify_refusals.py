@@ -120,6 +120,8 @@ BLOCKS: list[Row] = [
     ("a polygon's bounds are wrong", write(17, 28, i16(-32768)), 17),
     (OUTSIDE, write(17, 8, i32(-100)), 17),
     ("a polygon's counts are wrong", write(17, 24, u32(3)), 17),
+    ("a polygon's counts are wrong", both(write(17, 0, u32(91)), write(17, 24, u32(0x40000000))), 17),
+    ("a polygon's counts are wrong", both(write(17, 0, u32(91)), write(17, 24, u32(1, 9, 1))), 17),
     (MORE, double(18), 19),
     (MORE, double(64), 65),
     (MORE, double(39), 45),
