@@ -5,14 +5,19 @@ import time
 import unittest
 
 from metaplay_verify import Verdict, verify
+from metaplay_verify.files import read
+from metaplay_verify.reading import Reader
 
-from .oracle import EMF_END, emf_file, emf_record, emf_script, i16, i32, u16, u32
+from .oracle import EMF_END, emf_file, emf_record, emf_script, i16, i32, placeable_file, u16, u32, wmf_record
 from .parts import places_of, records_of
 from .planted import converted, emf_comment, joined, mark
 from .test_emf import world
 from .test_text_blocks import UPDATE_POSITION, font, text
 
 TRANSPARENT = emf_script("back_mode 1")
+FUNCTIONS = [0x001E, 0x00F7, 0x0102, 0x0103, 0x0108, 0x0127, 0x012D, 0x012E, 0x0142, 0x01F0, 0x01F9, 0x0201, 0x0209]
+FUNCTIONS += [0x020A, 0x020B, 0x020C, 0x020D, 0x020E, 0x020F, 0x0211, 0x0213, 0x0214, 0x0234, 0x02FA, 0x02FB, 0x02FC]
+FUNCTIONS += [0x0410, 0x0412, 0x06FF]
 OUTSIDE = "a polygon lies outside of the text's box, or doesn't fit it, or has a wrong clip"
 
 
@@ -50,6 +55,7 @@ class Made(unittest.TestCase):
         for before in (
             emf_script("pixel 1 1"),
             emf_script("begin_path; end_path"),
+            emf_script("viewport_extent 9 9"),
             emf_script("map_mode 8; window_extent 2 2; viewport_extent 2 2"),
         ):
             self.assertEqual(verdict_of(before, [self.A], block_of(self.A)).places, 1)
@@ -119,6 +125,41 @@ class Made(unittest.TestCase):
         start = time.process_time()
         verdict_of([*emf_script("map_mode 8"), *[scale] * 30000], [self.A], block_of(self.A))
         self.assertLess(time.process_time() - start, 5)
+
+    def test_cut_records(self) -> None:
+        """Records of each kind that are cut, or count more than they have, don't disturb the reader."""
+        emf, wmf = Reader(read(emf_file([]))), Reader(read(placeable_file([])))
+        for size in range(0, 104, 2):
+            for kind in range(1, 123):
+                emf.see(emf_record(kind, b"\x01\0\0\0" * (size // 4)))
+                emf.see(emf_record(kind, b"\xff" * (size // 2 * 2)))
+            for function in FUNCTIONS:
+                wmf.see(wmf_record(function, b"\x01\0" * (size // 2)))
+                wmf.see(wmf_record(function, b"\xff" * size))
+        self.assertTrue(emf.beyond)
+
+    def test_cut_lines(self) -> None:
+        """Lines whose points aren't there don't move the position."""
+        cut = emf_record(6, i32(0, 0, -1, -1, 2, 90, 90))
+        none = emf_record(6, i32(0, 0, -1, -1, 0))
+        before = [UPDATE_POSITION, *emf_script("move 20 30"), cut, none]
+        self.assertTrue(verdict_of(before, [self.B], block_of(self.A)).holds)
+
+    def test_metric_modes(self) -> None:
+        """A device of 1,000 by 500 pixels and 200 by 100 millimetres: 20 tenths of a millimetre are 10 pixels."""
+        data = emf_file([])
+        reader = Reader(read(data[:72] + i32(1000, 500, 200, 100) + data[88:]))
+        for mode, point in ((2, (20, 10)), (3, (200, 100)), (9, (200, 100))):
+            reader.see(emf_record(17, u32(mode)))
+            self.assertEqual(reader.state.device(point), (10, -5))
+        reader.see(emf_record(9, i32(7, 7)))
+        self.assertEqual(reader.state.device((200, 100)), (10, -5))
+        reader.see(emf_record(17, u32(1)))
+        self.assertEqual(reader.state.device((200, 100)), (200, 100))
+        for broken in (data[:72] + i32(0, 500, 200, 100) + data[88:], placeable_file([])):
+            reader = Reader(read(broken))
+            reader.see(emf_record(17, u32(2)) if broken[:1] == b"\1" else wmf_record(0x0103, u16(2)))
+            self.assertEqual(reader.state.device((20, 10)), (20, 10))
 
     def test_many_fills(self) -> None:
         """Very many fills for very many texts are refused soon."""
