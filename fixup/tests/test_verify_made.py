@@ -3,6 +3,7 @@
 import hashlib
 import time
 import unittest
+from itertools import product
 
 from metaplay_verify import Verdict, verify
 from metaplay_verify.files import read
@@ -129,13 +130,13 @@ class Made(unittest.TestCase):
     def test_cut_records(self) -> None:
         """Records of each kind that are cut, or count more than they have, don't disturb the reader."""
         emf, wmf = Reader(read(emf_file([]))), Reader(read(placeable_file([])))
-        for size in range(0, 104, 2):
+        patterns = (b"\1\0\0\0", b"\xff\xff\xff\xff", b"\0\0\0\0", b"\x09\0\0\1")
+        for size, pattern in product(range(0, 104, 4), patterns):
+            data = pattern * (size // 4)
             for kind in range(1, 123):
-                emf.see(emf_record(kind, b"\x01\0\0\0" * (size // 4)))
-                emf.see(emf_record(kind, b"\xff" * (size // 2 * 2)))
+                emf.see(emf_record(kind, data))
             for function in FUNCTIONS:
-                wmf.see(wmf_record(function, b"\x01\0" * (size // 2)))
-                wmf.see(wmf_record(function, b"\xff" * size))
+                wmf.see(wmf_record(function, data))
         self.assertTrue(emf.beyond)
 
     def test_cut_lines(self) -> None:
