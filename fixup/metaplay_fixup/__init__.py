@@ -10,9 +10,10 @@
 - fonts: `faces` over FreeType, `fonts`, `composites`, `catalogue`, `families`, `adobe_symbol`, `choice`
 - outlines: `outlines`, `flattening`, `glyph_shapes`
 - text: `charsets`, `scripts`, `metrics`, `face_metrics`, `glyphs`, `layout`, `text_boxes`, `layer`
+- strokes: `pens`, `dashes`, `caps`, `joins`, `stroke_shapes`
 - the output: `output`, `marks`, `budgets`
 - blocks: `text_blocks`, `emf_blocks`, `wmf_blocks`
 - what happens to each record: `session`, `steps`, and the modules that begin with `emf` and `wmf`
 
-No module but those of the last two groups knows these.
+No module but those of the last two groups knows these. `emf_strokes` and `wmf_strokes` make the blocks of strokes.
 """
