@@ -31,7 +31,7 @@ _MOST_ENTRIES = 16
 DEFAULT_MITER_LIMIT = Ratio(10, 1)
 
 _GEOMETRIC = 0x10000
-_SINGLE_ONE = 0x3F800000
+_LEAST_SINGLE = 1 << 23
 _STYLE_BITS, _CAP_BITS, _JOIN_BITS = 0xF, 0xF00, 0xF000
 
 
@@ -160,9 +160,8 @@ def _look(style: int, width: int, colour: Colour, is_older: bool, entries: tuple
 def read_miter_limit(word: int) -> Ratio | None:
     """A miter limit of a record, or None if it is below 1.
 
-    The standard has a whole number there, but GDI writes an IEEE single. A word below that of the single 1.0 is taken
-    as a whole number, since as a single it would be no limit. Raises Fault BadValue if the single isn't finite or is
-    too large.
+    The standard has a whole number there, but GDI writes an IEEE single. A word below 2^23 is taken as a whole number,
+    since as a single it would be nearly 0. Raises Fault BadValue if the single isn't finite or is too large.
     """
-    limit = Ratio(word, 1) if word < _SINGLE_ONE else single_of(word)
+    limit = Ratio(word, 1) if word < _LEAST_SINGLE else single_of(word)
     return limit if limit.numerator >= limit.denominator else None
