@@ -2,9 +2,11 @@
 
 from __future__ import annotations
 
+from functools import lru_cache
+
 from .affine import Contour, Point
 from .budgets import Budget
-from .curves import Direction, Oval
+from .curves import Direction, Oval, place_of
 from .fixed import rounded_quotient
 from .pens import Cap, PenShape
 
@@ -31,6 +33,32 @@ def moved(point: Point, heading: Direction, length: int) -> Point:
     return Point(point.x + x, point.y + y)
 
 
+@lru_cache(maxsize=16)
+def _ring(radius: int, tolerance: int) -> tuple[Point, ...]:
+    """The vectors from the centre of a circle to the ends of its chords: the same for each cap and join of a pen."""
+    circle_there = Oval(Point(0, 0), Point(radius, 0), Point(0, radius))
+    return tuple(circle_there.ring(Budget(tolerance)))
+
+
+def disc(centre: Point, pen: PenShape, budget: Budget) -> Contour:
+    """A whole circle. Raises Fault TooManyEdges if the file gets too many points."""
+    ring = _ring(pen.radius, budget.tolerance)
+    budget.take_points(len(ring))
+    return [Point(centre.x + vector.x, centre.y + vector.y) for vector in ring]
+
+
+def arc(centre: Point, start: Direction, end: Direction, pen: PenShape, budget: Budget) -> list[Point]:
+    """Part of a circle, from one direction to another that differs. Raises Fault as `disc` does."""
+    ring, around = _ring(pen.radius, budget.tolerance), circle(centre, pen)
+    first, last = (place_of(heading, len(ring) // 4) for heading in (start, end))
+    if last < first or (last == first and start.x * end.y - start.y * end.x < 0):
+        last += len(ring)
+    budget.take_points(last - first + 2)
+    between = [ring[place % len(ring)] for place in range(first + 1, last + 1)]
+    moved_there = [Point(centre.x + vector.x, centre.y + vector.y) for vector in between]
+    return [around.point(start), *moved_there, around.point(end)]
+
+
 def cap(point: Point, heading: Direction, pen: PenShape, budget: Budget) -> list[Contour]:
     """The cap of a stroke that ends at a point, where `heading` leads out of the stroke. A flat cap is nothing.
 
@@ -38,9 +66,10 @@ def cap(point: Point, heading: Direction, pen: PenShape, budget: Budget) -> list
     """
     if pen.cap is Cap.FLAT:
         return []
-    around, left, right = circle(point, pen), left_of(heading), right_of(heading)
+    left, right = left_of(heading), right_of(heading)
     if pen.cap is Cap.ROUND:
-        return [around.arc(left, right, budget)]
+        return [arc(point, left, right, pen, budget)]
+    around = circle(point, pen)
     return [_box(around.point(left), around.point(right), heading, pen.radius)]
 
 
@@ -51,9 +80,8 @@ def dot(point: Point, heading: Direction, pen: PenShape, budget: Budget) -> list
     """
     if pen.cap is Cap.FLAT:
         return []
-    around = circle(point, pen)
     if pen.cap is Cap.ROUND:
-        return [around.ring(budget)]
+        return [disc(point, pen, budget)]
     back = moved(point, heading, -pen.radius)
     start = circle(back, pen)
     return [_box(start.point(left_of(heading)), start.point(right_of(heading)), heading, 2 * pen.radius)]

@@ -4,7 +4,7 @@ from __future__ import annotations
 
 from .affine import Contour, Point
 from .budgets import Budget
-from .caps import circle, left_of, right_of
+from .caps import arc, circle, left_of, right_of
 from .curves import Direction
 from .fixed import rounded_quotient
 from .pens import Join, PenShape
@@ -23,12 +23,12 @@ def join(corner: Point, before: Direction, after: Direction, pen: PenShape, budg
         first, last = left_of(before), left_of(after)
     else:
         first, last = right_of(after), right_of(before)
-    around = circle(corner, pen)
     if pen.join is Join.ROUND:
-        return [[corner, *around.arc(first, last, budget)]]
+        return [[corner, *arc(corner, first, last, pen, budget)]]
     if turn == 0:
         return []
     tip = [_tip(corner, first, last, pen)] if pen.join is Join.MITER and _is_within_limit(first, last, pen) else []
+    around = circle(corner, pen)
     return [[corner, around.point(first), *tip, around.point(last)]]
 
 

@@ -9,9 +9,14 @@ from .budgets import Budget
 from .caps import cap, circle, dot, left_of, right_of
 from .curves import Direction, direction_of
 from .dashes import Dash, dashes, line_of, whole
+from .faults import Fault, FaultName
 from .joins import join
 from .pens import PenShape
-from .shapes import Figure
+from .shapes import MOST_POINTS, Figure
+
+# The player's widest nib, in pixels, and how many times the tolerance goes into a pixel at the bound.
+_WIDEST_NIB = 4096
+_TOLERANCES_OF_PIXEL = 8
 
 
 def stroke_contours(figures: Iterable[Figure], pen: PenShape, budget: Budget) -> list[Contour]:
@@ -19,10 +24,15 @@ def stroke_contours(figures: Iterable[Figure], pen: PenShape, budget: Budget) ->
     turn from x.
 
     The union of the contours is what the pen covers. Round caps and joins are chords within the budget's tolerance.
-    Raises Fault TooManyEdges if the file gets too many points.
+    Raises Fault TooManyEdges if the stroke or the file gets too many points, and NibTooWide if the pen has more than
+    4,096 pixels at the bound, as the player does.
     """
-    parts = [dash for figure in figures for dash in _parts(figure, pen, budget)]
-    contours = [contour for dash in parts for contour in _dash_contours(dash, pen, budget)]
+    if pen.width > _WIDEST_NIB * _TOLERANCES_OF_PIXEL * budget.tolerance:
+        raise Fault(FaultName.NibTooWide)
+    own = Budget(budget.tolerance, MOST_POINTS)
+    parts = [dash for figure in figures for dash in _parts(figure, pen, own)]
+    contours = [contour for dash in parts for contour in _dash_contours(dash, pen, own)]
+    budget.take_points(sum(map(len, contours)))
     return [contour for contour in contours if twice_area(contour) > 0]
 
 

@@ -355,7 +355,7 @@ class WmfStrokes(unittest.TestCase):
         """A placeable file of 960 units an inch has pixels of 10 units, and a plain one 1,024 pixels on its longer side:
         both make the dashes as many times longer.
         """
-        drawing = [*wmf_script("back_mode 1"), *wmf_pen(1, 0), *wmf_script("polyline 0 0 200 0")]
+        drawing = [*wmf_script("back_mode 1"), *wmf_pen(1, 0), *wmf_script("polyline 0 0 300 0")]
         placeable = bytearray(placeable_file(drawing, 1000, 1000))
         placeable[14:16] = u16(960)
         placeable[20:22] = bytes(a ^ b for a, b in zip(placeable[20:22], u16(960 ^ 96)))
@@ -366,7 +366,7 @@ class WmfStrokes(unittest.TestCase):
             first = [int.from_bytes(ends[0][at : at + 2], "little", signed=True) for at in (8, 12)]
             second = int.from_bytes(ends[1][8:10], "little", signed=True)
             self.assertEqual((second - first[0]) * 180, (first[1] - first[0]) * 240)
-            self.assertEqual(len(ends), 1)
+            self.assertEqual(len(ends), 2)
 
 
 class Laws(unittest.TestCase):
@@ -382,9 +382,9 @@ class Laws(unittest.TestCase):
             emf += [emf_record(42, i32(1, 1, 40, 20)), emf_record(88, NO_BOUNDS + u32(3) + i16(10, 0, 20, 30, 3, 60))]
             emf += [select(0x80000007), DELETE[:8] + u32(1), world(0.6, 0.8, -0.8, 0.6, 7.5, 8)]
         wmf: list[bytes] = []
-        for style, width in ((0, 5), (1, 1), (3, 0), (0x1100, 9)):
-            wmf += [*wmf_pen(style, width), *wmf_script(drawings), wmf_record(0x0418, i16(90, 90, 10, 10))]
-            wmf += [*wmf_script("null_pen 1; select 1; delete 0"), *wmf_pen(5, 0), *wmf_script("delete 1")]
+        for index, (style, width) in enumerate(((0, 5), (1, 1), (3, 0), (0x1100, 9))):
+            wmf += [wmf_pen(style, width)[0], wmf_record(0x012D, u16(index)), *wmf_script(drawings)]
+            wmf += [wmf_record(0x0418, i16(90, 90, 10, 10)), *wmf_script("polyline 1 1 5 50")]
         return [emf_file(emf), placeable_file(wmf)]
 
     def check(self, data: bytes, options: Options) -> Converted:
@@ -402,7 +402,7 @@ class Laws(unittest.TestCase):
             for bound in (1, 64, 1000, 8192):
                 result = self.check(data, Options(bound=bound, strokes=True))
                 self.assertIsNone(refusal_of(result.data))
-                self.assertGreater(len(result.replacements), 20)
+                self.assertGreaterEqual(len(result.replacements), 20)
 
     def test_mutants(self) -> None:
         """Each mutant is converted, with the laws, or has a named fault."""
