@@ -249,8 +249,8 @@ class EmfStrokes(unittest.TestCase):
     def test_kept(self) -> None:
         """Pens that the player's box draws, and null pens, stay; so does everything where only text is replaced."""
         line = emf_script("polyline 10 10 30 10 30 30; rectangle 1 1 9 9; move 1 1; line 5 5")
-        pens = [long_pen(GEOMETRIC | 0x100 | MITER, 4), long_pen(0, 1), old_pen(0, 1), old_pen(5, 9), []]
-        for pen in pens:
+        no_pen: list[bytes] = []
+        for pen in (long_pen(GEOMETRIC | 0x100 | MITER, 4), long_pen(0, 1), old_pen(0, 1), old_pen(5, 9), no_pen):
             self.assertEqual(places(emf_file([*pen, *line])), [])
         data = emf_file([*long_pen(GEOMETRIC, 4), *line])
         self.assertEqual(convert(data, Options(strokes=True, text_only=True), None), Converted(data, ()))
@@ -298,7 +298,8 @@ class WmfStrokes(unittest.TestCase):
 
     def test_flat_line(self) -> None:
         """A line of 20 units with a flat pen of 4 is one box, counted from the line's start."""
-        lines = {"polyline 10 10 30 10": [], "line 30 10": wmf_script("move 10 10")}
+        nothing: list[bytes] = []
+        lines = {"polyline 10 10 30 10": nothing, "line 30 10": wmf_script("move 10 10")}
         for line, before in lines.items():
             records = self.only([*wmf_pen(FLAT | MITER, 4), *before, *wmf_script(line)])
             box = [number * 256 for number in (0, -2, 20, -2, 20, 2, 0, 2)]
@@ -330,7 +331,8 @@ class WmfStrokes(unittest.TestCase):
         """A rectangle's frame of 4 pixels with mitred corners, also where the page points up."""
         pen, rectangle = wmf_pen(FLAT | MITER, 4), wmf_script("rectangle 10 10 30 30")
         flipped = [wmf_record(0x020C, i16(-100, 100)), wmf_record(0x020B, i16(100, 0))]
-        for before, top in (([], 8), (flipped, 68)):
+        nothing: list[bytes] = []
+        for before, top in ((nothing, 8), (flipped, 68)):
             data = placeable_file([*before, *pen, *rectangle])
             places(data)
             picture = picture_of(convert(data, STROKES, None).data, 100, 100)
@@ -409,14 +411,15 @@ class Laws(unittest.TestCase):
         source = random.Random(744)
         files = [*(data for data in samples() if len(data) > 100), *self.made_files() * 10]
         converted = 0
-        for number in range(200):
-            start = time.process_time()
-            try:
-                self.check(mutant(source, source.choice(files)), Options(alpha=AlphaRule.WHITE, strokes=True))
-                converted += 1
-            except Fault:
-                pass
-            self.assertLess(time.process_time() - start, 5, number)
+        with patch("metaplay_fixup.stroke_shapes.MOST_POINTS", 20_000):
+            for number in range(200):
+                start = time.process_time()
+                try:
+                    self.check(mutant(source, source.choice(files)), Options(alpha=AlphaRule.WHITE, strokes=True))
+                    converted += 1
+                except Fault:
+                    pass
+                self.assertLess(time.process_time() - start, 5, number)
         self.assertGreater(converted, 50)
 
     def test_bombs(self) -> None:
