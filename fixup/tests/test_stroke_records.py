@@ -128,8 +128,9 @@ class EmfStrokes(unittest.TestCase):
         )
 
     def test_miter_limit(self) -> None:
-        """EMR_SETMITERLIMIT: at a right angle the miter is 1.41 of the width, so a limit of 1 makes a bevel. It is saved
-        and restored; a limit below 1 changes nothing.
+        """EMR_SETMITERLIMIT: at a right angle the miter is 1.41 of the width, so a limit of 1 makes a bevel.
+
+        It is saved and restored; a limit below 1 changes nothing.
         """
         limit, none = emf_record(58, u32(0x3F800000)), emf_record(58, u32(0x3F000000))
         line = emf_script("polyline 10 10 30 10 30 30")
@@ -189,7 +190,7 @@ class EmfStrokes(unittest.TestCase):
         (place,) = places_of(data, result.data)
         kinds = [int.from_bytes(record[:4], "little") for record in place.records]
         self.assertEqual(kinds, [33, 17, 10, 9, 12, 11, 37, 3, 19, 37, 39, 37, 8, 34, 40])
-        picture = picture_of(result.data, 100, 100)
+        picture = picture_of(convert(data, Options(bound=100, strokes=True), None).data, 100, 100)
         for x, y, is_red in (
             (8, 30, True),
             (11, 30, True),
@@ -354,8 +355,9 @@ class WmfStrokes(unittest.TestCase):
         self.assertEqual(opaque, wmf_block(here, *inner, objects=3))
 
     def test_pixels(self) -> None:
-        """A placeable file of 960 units an inch has pixels of 10 units, and a plain one 1,024 pixels on its longer side:
-        both make the dashes as many times longer.
+        """A placeable file of 960 units an inch has pixels of 10 units, and a plain one has 1,024 on a side.
+
+        Both make the dashes ten times as long.
         """
         drawing = [*wmf_script("back_mode 1"), *wmf_pen(1, 0), *wmf_script("polyline 0 0 300 0")]
         placeable = bytearray(placeable_file(drawing, 1000, 1000))
@@ -410,17 +412,17 @@ class Laws(unittest.TestCase):
         """Each mutant is converted, with the laws, or has a named fault."""
         source = random.Random(744)
         files = [*(data for data in samples() if len(data) > 100), *self.made_files() * 10]
-        converted = 0
+        converted, options = 0, Options(bound=500, alpha=AlphaRule.WHITE, strokes=True)
         with patch("metaplay_fixup.stroke_shapes.MOST_POINTS", 20_000):
-            for number in range(200):
+            for number in range(100):
                 start = time.process_time()
                 try:
-                    self.check(mutant(source, source.choice(files)), Options(alpha=AlphaRule.WHITE, strokes=True))
+                    self.check(mutant(source, source.choice(files)), options)
                     converted += 1
                 except Fault:
                     pass
                 self.assertLess(time.process_time() - start, 5, number)
-        self.assertGreater(converted, 50)
+        self.assertGreater(converted, 25)
 
     def test_bombs(self) -> None:
         """Lines with very many dashes are counted, and end with a named fault."""
@@ -445,12 +447,12 @@ class Laws(unittest.TestCase):
         """Four times as many strokes, or points of one stroke, take less than nine times as long."""
         for pen in (long_pen(GEOMETRIC, 4), long_pen(GEOMETRIC | 1, 2), long_pen(2, 1)):
             lines = emf_script("move 1 2; line 70 8")
-            few, many = self.seconds([*pen, *lines * 250]), self.seconds([*pen, *lines * 1000])
+            few, many = self.seconds([*pen, *lines * 100]), self.seconds([*pen, *lines * 400])
             self.assertLess(many, 9 * few + 0.05)
-            zigzag = [number for at in range(1000) for number in (at % 90, at % 7)]
+            zigzag = [number for at in range(600) for number in (at % 90, at % 7)]
             few, many = (
                 self.seconds([*pen, emf_record(87, NO_BOUNDS + u32(len(part) // 2) + i16(*part))])
-                for part in (zigzag[:500], zigzag)
+                for part in (zigzag[:300], zigzag)
             )
             self.assertLess(many, 9 * few + 0.05)
 

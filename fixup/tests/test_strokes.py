@@ -135,8 +135,9 @@ class Corners(unittest.TestCase):
             self.assertEqual(len(strokes(shape(2, Cap.FLAT, kind), False, 0, 0, 10, 0, 20, 0)), 2)
 
     def test_limit(self) -> None:
-        """After a turn to (-7, 24) / 25 the miter is 5 / 3 of the width: its tip is (4, -3) from the corner for a radius
-        of 3. A limit of 5 / 3 is enough, and one below it makes a bevel.
+        """After a turn to (-7, 24) / 25 the miter is 5 / 3 of the width.
+
+        Its tip is (4, -3) from the corner for a radius of 3. A limit of 5 / 3 is enough; one below it makes a bevel.
         """
         turn = (Point(0, 0), Direction(1, 0, 1), Direction(-7, 24, 25))
         first, last = Point(0, -3 * ONE), Point(72 * ONE // 25, 21 * ONE // 25)
@@ -149,7 +150,7 @@ class Corners(unittest.TestCase):
         self.assertAlmostEqual(less[2].y, last.y, delta=1)
 
     def test_default_limit(self) -> None:
-        """The limit is 10 by default: lines that meet at 12 degrees have a miter of 9.6, and at 11 degrees one of 10.4."""
+        """The limit is 10 by default: at 12 degrees between two lines the miter is 9.6 long, and at 11 degrees 10.4."""
         for y, count in ((2126, 4), (1944, 3)):
             contours = strokes(PenShape(2 * ONE, Cap.FLAT, Join.MITER), False, 0, 0, 10000, 0, 0, y)
             self.assertEqual(len(contours[2]), count)
