@@ -197,7 +197,7 @@ def comment(session: EmfSession) -> None:
 
 
 def miter_limit(session: EmfSession) -> None:
-    """EMR_SETMITERLIMIT ([MS-EMF] 2.3.11.21): a limit below 1 is none, so the one before stays."""
+    """EMR_SETMITERLIMIT ([MS-EMF] 2.3.11): a limit below 1 is none, so the one before stays."""
     if session.has_strokes:
         limit = read_miter_limit(session.fields["limit"])
         if limit is not None:
