@@ -63,7 +63,9 @@ def _dash_contours(dash: Dash, pen: PenShape, budget: Budget) -> list[Contour]:
     ring = line_of(dash)
     headings = [direction_of(Point(end.x - start.x, end.y - start.y)) for start, end in zip(ring, ring[1:])]
     budget.take_points(4 * len(headings))
-    contours = [_segment(*line, heading, pen) for line, heading in zip(zip(ring, ring[1:]), headings)]
+    ends = zip(ring, ring[1:])
+    corners = set(ring) if dash.is_closed else set(ring[1:-1])
+    contours = [_segment(*line, heading, pen, corners) for line, heading in zip(ends, headings)]
     contours += _corners(ring, headings, pen, budget)
     if dash.is_closed:
         return contours + join(ring[0], headings[-1], headings[0], pen, budget)
@@ -71,10 +73,23 @@ def _dash_contours(dash: Dash, pen: PenShape, budget: Budget) -> list[Contour]:
     return contours + cap(ring[0], back, pen, budget) + cap(ring[-1], headings[-1], pen, budget)
 
 
-def _segment(start: Point, end: Point, heading: Direction, pen: PenShape) -> Contour:
+def _segment(start: Point, end: Point, heading: Direction, pen: PenShape, corners: set[Point]) -> Contour:
+    """The box around a line. At corners it has the corner itself too, where the join begins.
+
+    Otherwise the player, which rounds points to pixels, could leave a crack between the box and the join.
+    """
     left, right = left_of(heading), right_of(heading)
     first, last = circle(start, pen), circle(end, pen)
-    return [first.point(left), last.point(left), last.point(right), first.point(right)]
+    middle_of_end = [end] if end in corners else []
+    middle_of_start = [start] if start in corners else []
+    return [
+        first.point(left),
+        last.point(left),
+        *middle_of_end,
+        last.point(right),
+        first.point(right),
+        *middle_of_start,
+    ]
 
 
 def _corners(ring: Sequence[Point], headings: Sequence[Direction], pen: PenShape, budget: Budget) -> list[Contour]:

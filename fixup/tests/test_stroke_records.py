@@ -4,6 +4,7 @@ import random
 import time
 import unittest
 from functools import partial
+from math import hypot
 from unittest.mock import patch
 
 from metaplay_fixup.budgets import Budget
@@ -114,9 +115,13 @@ class EmfStrokes(unittest.TestCase):
         """A mitred corner: two boxes and a kite in one polypolygon, whose picture is the two boxes to the corner."""
         drawing = [*long_pen(GEOMETRIC | FLAT | MITER, 4), *emf_script("polyline 10 10 30 10 30 30")]
         records = self.only(drawing)
-        lists = [(0, -2, 20, -2, 20, 2, 0, 2), (22, 0, 22, 20, 18, 20, 18, 0), (20, 0, 20, -2, 22, -2, 22, 0)]
+        lists = [
+            (0, -2, 20, -2, 20, 0, 20, 2, 0, 2),
+            (22, 0, 22, 20, 18, 20, 18, 0, 20, 0),
+            (20, 0, 20, -2, 22, -2, 22, 0),
+        ]
         numbers = [number * PARTS for numbers in lists for number in numbers]
-        drawn = emf_record(91, i32(10, 8, 32, 30, 3, 12, 4, 4, 4) + i16(*numbers))
+        drawn = emf_record(91, i32(10, 8, 32, 30, 3, 14, 5, 5, 4) + i16(*numbers))
         self.assertEqual(records, [SAVE, *map_to(10, 10), *brush(), drawn, RESTORE, DELETE])
         picture = picture_of(convert(emf_file(drawing), STROKES, None).data, 100, 100)
         expected = [
@@ -137,7 +142,7 @@ class EmfStrokes(unittest.TestCase):
         pen = long_pen(GEOMETRIC | FLAT | MITER, 4)
         found = places(emf_file([*pen, SAVE, limit, none, *line, RESTORE, *line]))
         counts = [int.from_bytes(place.records[10][28:32], "little") for place in found]
-        self.assertEqual(counts, [4 + 4 + 3, 4 + 4 + 4])
+        self.assertEqual(counts, [5 + 5 + 3, 5 + 5 + 4])
 
     def test_dashed_line(self) -> None:
         """A flat dashed pen of 2: dashes of 6 and gaps of 2, along a line of 10."""
@@ -201,6 +206,15 @@ class EmfStrokes(unittest.TestCase):
         ):
             self.assertEqual(picture[3 * (100 * y + x) :][:3] != WHITE_PIXEL, is_red, (x, y))
 
+    def test_no_cracks(self) -> None:
+        """A wide ellipse on a surface much coarser than the bound: no pixel within its stroke is left white."""
+        data = emf_file([*long_pen(GEOMETRIC, 12), emf_record(42, i32(10, 10, 90, 90))])
+        picture = picture_of(convert(data, Options(bound=1000, strokes=True), None).data, 100, 100)
+        for at in range(10000):
+            distance = hypot(at % 100 + 0.5 - 50, at // 100 + 0.5 - 50)
+            if 36 <= distance <= 44:
+                self.assertNotEqual(picture[3 * at : 3 * at + 3], WHITE_PIXEL, divmod(at, 100))
+
     def test_path(self) -> None:
         """A path that plays as it is: its records leave, and its figures are stroked, closed ones with joins."""
         pen = long_pen(GEOMETRIC | FLAT | MITER, 4)
@@ -210,7 +224,7 @@ class EmfStrokes(unittest.TestCase):
         found = places(emf_file([*pen, *path, *emf_script("stroke_path")]))
         drawn = [place for place in found if place.records]
         counts = drawn[-1].records[-3][24:32]
-        self.assertEqual(counts, u32(3 + 3 + 1, 7 * 4))
+        self.assertEqual(counts, u32(3 + 3 + 1, 3 * 6 + 3 * 4 + 4))
         filled = places(emf_file([*pen, *path, *emf_script("fill_path")]))
         self.assertEqual(filled, [])
 

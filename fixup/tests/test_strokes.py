@@ -226,7 +226,11 @@ class Dashes(unittest.TestCase):
         """Each dash has its own caps, and a corner within one has a join."""
         pen = shape(2, Cap.SQUARE, pattern=(6, 4))
         contours = strokes(pen, False, 0, 0, 4, 0, 4, 8)
-        corner = [points(0, -1, 4, -1, 4, 1, 0, 1), points(5, 0, 5, 2, 3, 2, 3, 0), points(4, 0, 4, -1, 5, -1, 5, 0)]
+        corner = [
+            points(0, -1, 4, -1, 4, 0, 4, 1, 0, 1),
+            points(5, 0, 5, 2, 3, 2, 3, 0, 4, 0),
+            points(4, 0, 4, -1, 5, -1, 5, 0),
+        ]
         caps = [points(0, 1, -1, 1, -1, -1, 0, -1), points(5, 2, 5, 3, 3, 3, 3, 2)]
         last = [points(5, 6, 5, 8, 3, 8, 3, 6), points(3, 6, 3, 5, 5, 5, 5, 6), points(5, 8, 5, 9, 3, 9, 3, 8)]
         self.assertEqual(contours, corner + caps + last)
