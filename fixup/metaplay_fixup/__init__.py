@@ -4,6 +4,7 @@
 
 - what all know: `faults`, `options`, and `text`, which `layer` implements
 - numbers: `fixed`, `affine`, `singles`, `angles`, `curves`, `rounds`, `shapes`
+- strokes: `pens`, `dashes`, `caps`, `joins`, `stroke_shapes`
 - records and files: `records` with its tables `emf_kinds` and `wmf_kinds`, `reader`
 - the playing state: `objects`, `slots`, `worlds`, `viewports`, `extents`, `clips`, `paths`, `state`
 - bitmaps: `pictures`, `channels`, `compressed`, `bitmaps`, `blends`, `sources`

@@ -169,7 +169,7 @@ class Oval(NamedTuple):
         Raises Fault as `flattened` does.
         """
         steps = self._steps_from(budget)
-        first, last = _place(start, steps), _place(end, steps)
+        first, last = place_of(start, steps), place_of(end, steps)
         is_after = start.x * end.y - start.y * end.x > 0
         if last < first or (last == first and not is_after):
             last += 4 * steps
@@ -183,8 +183,8 @@ def _vertex_direction(place: int, steps: int) -> Direction:
     return Direction(x, y, length).turned_back(-quarter)
 
 
-def _place(direction: Direction, steps: int) -> int:
-    """The place of the last end of a chord that isn't after a direction."""
+def place_of(direction: Direction, steps: int) -> int:
+    """The place of the last end of a chord that isn't after a direction, where a quarter has so many chords."""
     quarter = direction.quarter()
     within = direction.turned_back(quarter)
     return quarter * steps + min(steps - 1, steps * within.y // (within.x + within.length))

@@ -53,6 +53,7 @@ HANDLERS: dict[int, Handler] = {
     54: emf_drawings.line_to,
     55: emf_drawings.arc_to,
     57: emf_state.arc_direction,
+    58: emf_state.miter_limit,
     59: emf_paths.begin,
     60: emf_paths.end,
     61: emf_paths.close_figure,

@@ -4,6 +4,7 @@ from __future__ import annotations
 
 from collections.abc import Sequence
 
+from . import emf_strokes
 from .affine import Point
 from .curves import flattened
 from .emf_session import EmfSession
@@ -22,6 +23,11 @@ def record_box(session: EmfSession) -> Box:
     """The box in the fields of the record at hand."""
     left, top, right, bottom = session.fields.several("left", "top", "right", "bottom")
     return Box(left, top, right, bottom)
+
+
+def _plays_as_it_is(session: EmfSession) -> bool:
+    """Whether the player draws a record of lines as the file says."""
+    return session.state.is_plain and not emf_strokes.replaces_strokes(session)
 
 
 def polygons(session: EmfSession) -> None:
@@ -44,10 +50,11 @@ def _separate_lines(session: EmfSession, is_closed: bool) -> None:
         for points in lists:
             path.add(_on_device(session, points), is_closed)
         session.keep_in_path()
-    elif session.state.is_plain or not lists:
+    elif not lists or _plays_as_it_is(session):
         session.keep()
     else:
-        session.draw([Figure(_on_device(session, points), is_closed) for points in lists], Action.LINES)
+        figures = [Figure(_on_device(session, points), is_closed) for points in lists]
+        emf_strokes.draw_record(session, figures)
 
 
 def lines_to(session: EmfSession) -> None:
@@ -70,12 +77,12 @@ def _joined_lines(session: EmfSession, points: Sequence[Point]) -> None:
         session.give_up_path()
     if path is not None:
         _lines_in_path(session, points)
-    elif state.is_plain:
+    elif _plays_as_it_is(session):
         session.sync_position()
         session.keep()
         state.output_position = points[-1]
     else:
-        session.draw([Figure(_on_device(session, [state.position, *points]), False)], Action.LINES)
+        emf_strokes.draw_record(session, [Figure(_on_device(session, [state.position, *points]), False)])
     state.position = points[-1]
 
 
@@ -113,7 +120,7 @@ def _joined_curve(session: EmfSession, start: Point, curve: Sequence[Point]) -> 
     """A curve from the position on: `start` is its place, and the curve has the points after it."""
     path = session.open_path
     if path is None:
-        session.draw([Figure([start, *curve], False)], Action.CURVE)
+        emf_strokes.draw(session, [Figure([start, *curve], False)], Action.CURVE)
         return
     session.give_up_path()
     path.continue_from(start, curve)
@@ -124,7 +131,7 @@ def draw_figure(session: EmfSession, figure: Figure) -> None:
     """Draws a figure that doesn't use the position, or adds it to the open path."""
     path = session.open_path
     if path is None:
-        session.draw([figure], Action.CURVE)
+        emf_strokes.draw(session, [figure], Action.CURVE)
         return
     session.give_up_path()
     path.add(figure.points, figure.is_closed)
@@ -184,10 +191,10 @@ def rectangle(session: EmfSession) -> None:
             session.give_up_path()
         path.add(corners, True)
         session.keep_in_path()
-    elif state.is_plain:
+    elif _plays_as_it_is(session):
         session.keep()
-    elif not state.device.is_straight():
-        session.draw([Figure(corners, True)], Action.LINES)
+    elif emf_strokes.replaces_strokes(session) or not state.device.is_straight():
+        emf_strokes.draw_record(session, [Figure(corners, True)])
     else:
         session.replace(
             Action.LINES, session.stroked_block(corners[0], lambda origin: [_box(session, corners, origin)])
@@ -216,21 +223,18 @@ def pixel(session: EmfSession) -> None:
 def paint(session: EmfSession) -> None:
     """EMR_FILLPATH, EMR_STROKEANDFILLPATH and EMR_STROKEPATH."""
     path = session.finished_path()
+    name = session.kind_at_hand.name
+    if name != "EMR_FILLPATH" and emf_strokes.replaces_strokes(session):
+        session.give_up(path)
     if path.is_plain:
         session.keep()
         return
     figures = [figure for figure in path.figures if len(figure.points) > 1]
-    name = session.kind_at_hand.name
     if not figures or (name == "EMR_STROKEPATH" and session.state.pen.is_null):
         session.replace(Action.PATH)
     elif name == "EMR_FILLPATH":
         session.replace(Action.PATH, session.fill_only([figure.points for figure in figures]))
     elif name == "EMR_STROKEANDFILLPATH":
-        session.draw([Figure(figure.points, True) for figure in figures], Action.PATH)
+        emf_strokes.draw(session, [Figure(figure.points, True) for figure in figures], Action.PATH)
     else:
-        session.draw([Figure(_stroked(figure), False) for figure in figures], Action.PATH)
-
-
-def _stroked(figure: Figure) -> list[Point]:
-    """The points of a figure's outline: a closed one ends where it begins."""
-    return [*figure.points, figure.points[0]] if figure.is_closed else figure.points
+        emf_strokes.stroke_path(session, figures)

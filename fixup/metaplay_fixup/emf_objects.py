@@ -5,13 +5,24 @@ from __future__ import annotations
 from .bitmaps import plays_as_stored, stored
 from .emf_session import EmfSession
 from .faults import Fault, FaultName
-from .objects import FIRST_STOCK, Brush, Palette, Pen, logical_font, read_palette, stock_object
+from .objects import (
+    FIRST_STOCK,
+    NO_PALETTE,
+    Brush,
+    Palette,
+    Pen,
+    logical_font,
+    read_colour,
+    read_palette,
+    stock_object,
+)
 from .output import Action
+from .pens import PenLook, extended_pen, is_user_style, older_pen
 from .records import numbers_at
 from .text import LogicalFont
 
 _NULL_PEN = 5
-_NULL_BRUSH = 1
+_SOLID_BRUSH, _NULL_BRUSH = 0, 1
 _GEOMETRIC = 0x10000
 _FACE_AT, _FACE_LENGTH = 40, 32
 _PALETTE_AT = 16
@@ -49,7 +60,8 @@ def create_pen(session: EmfSession) -> None:
     fields = session.fields
     is_null = fields["style"] & 15 == _NULL_PEN
     data = _with_colour(session, is_null)
-    session.make(fields["index"], Pen(abs(fields["width"]), is_null, data))
+    look = None if is_null else _look(session, data)
+    session.make(fields["index"], Pen(abs(fields["width"]), is_null, data, look))
 
 
 def create_long_pen(session: EmfSession) -> None:
@@ -58,7 +70,21 @@ def create_long_pen(session: EmfSession) -> None:
     is_null = fields["style"] & 15 == _NULL_PEN or fields["brush_style"] == _NULL_BRUSH
     data = _with_colour(session, is_null)
     width = fields["width"] if fields["style"] & _GEOMETRIC else 0
-    session.make(fields["index"], Pen(width, is_null, data))
+    look = None if is_null or fields["brush_style"] != _SOLID_BRUSH else _look(session, data)
+    session.make(fields["index"], Pen(width, is_null, data, look))
+
+
+def _look(session: EmfSession, data: bytes) -> PenLook | None:
+    """What a pen's record in the output says of its strokes, if they may be replaced."""
+    if not session.has_strokes:
+        return None
+    kind = session.kind_at_hand
+    style, width, reference = kind.read(data).several("style", "width", "colour")
+    colour = read_colour(reference, NO_PALETTE)
+    if kind.name == "EMR_CREATEPEN":
+        return older_pen(style, width, colour)
+    count = kind.read(data)["entries"] if is_user_style(style) else 0
+    return extended_pen(style, width, colour, numbers_at(data, kind.end, count, "I"))
 
 
 def _with_colour(session: EmfSession, is_null: bool) -> bytes:

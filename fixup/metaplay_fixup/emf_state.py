@@ -10,6 +10,7 @@ from .extents import scaled_extent
 from .faults import Fault, FaultName
 from .objects import read_colour
 from .output import Action
+from .pens import read_miter_limit
 from .state import ANISOTROPIC, ISOTROPIC, TEXT_MODE
 from .worlds import IDENTITY_WORLD, World, modified, read_world
 
@@ -193,3 +194,12 @@ def comment(session: EmfSession) -> None:
         session.replace(Action.EMF_PLUS)
     else:
         session.keep()
+
+
+def miter_limit(session: EmfSession) -> None:
+    """EMR_SETMITERLIMIT ([MS-EMF] 2.3.11): a limit below 1 is none, so the one before stays."""
+    if session.has_strokes:
+        limit = read_miter_limit(session.fields["limit"])
+        if limit is not None:
+            session.state.miter_limit = limit
+    session.keep()

@@ -6,6 +6,7 @@ from collections.abc import Sequence
 from dataclasses import dataclass
 
 from .faults import Fault, FaultName
+from .pens import PenLook
 from .records import Fields
 from .text import Colour, LogicalFont
 
@@ -15,11 +16,13 @@ class Pen:
     """A pen.
 
     `width` is in page units, 0 for the thinnest line. `data` is the record that makes it, or None for a stock pen.
+    `look` is what it says of its strokes, if that matters.
     """
 
     width: int
     is_null: bool
     data: bytes | None
+    look: PenLook | None = None
 
 
 @dataclass(frozen=True, slots=True)

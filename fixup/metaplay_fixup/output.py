@@ -28,6 +28,7 @@ class Action(Enum):
     EXTENT = "extent"
     MAP_MODE = "map mode"
     EMF_PLUS = "EMF+"
+    STROKE = "stroke"
 
 
 @dataclass(frozen=True, slots=True)

@@ -102,6 +102,11 @@ class Session(ABC):
         self.output.add(self.number, Source.INSERTED, records)
 
     @property
+    def has_strokes(self) -> bool:
+        """Whether strokes that the player doesn't draw as their pens say are replaced."""
+        return self.options.strokes and not self.options.text_only
+
+    @property
     def is_at_header(self) -> bool:
         """Whether the record at hand is a header."""
         return False

@@ -8,7 +8,10 @@ from math import isqrt
 from .affine import Affine, Point
 from .clips import NO_CLIP, Clip
 from .faults import Fault, FaultName
+from .fixed import ONE
 from .objects import BLACK, BLACK_PEN, NO_PALETTE, SYSTEM_FONT, WHITE, Palette, Pen
+from .pens import DEFAULT_MITER_LIMIT
+from .singles import Ratio
 from .text import OPAQUE, Colour, LogicalFont, PageToDevice, TextSettings
 from .viewports import UNSCALED, ViewportScale
 from .worlds import IDENTITY_WORLD, World
@@ -73,6 +76,7 @@ class State:
     break_extra: int = 0
     break_count: int = 0
     is_clockwise: bool = False
+    miter_limit: Ratio = DEFAULT_MITER_LIMIT
     clip: Clip = NO_CLIP
     meta_clip: Clip = NO_CLIP
     viewport_scale: ViewportScale = UNSCALED
@@ -138,6 +142,11 @@ def scaled_width(width: int, parts: int, device: Affine) -> int:
     """
     square = (2 * width * parts) ** 2 * abs(device.determinant()) // device.denominator**2
     return max(1, (isqrt(square) + 1) // 2)
+
+
+def page_length(device: Affine, length: int) -> int:
+    """A length of page units in fixed device units, by the mean scale; above 0 for a length above 0."""
+    return scaled_width(length, ONE, device) if length > 0 else 0
 
 
 class SavedStates:

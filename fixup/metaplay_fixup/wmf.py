@@ -31,19 +31,23 @@ HANDLERS: dict[int, Handler] = {
     0x020E: wmf_state.viewport_extent,
     0x020F: wmf_state.offset_window,
     0x0211: wmf_state.offset_viewport,
-    0x0213: wmf_state.move,
+    0x0213: wmf_drawings.line_to,
     0x0214: wmf_state.move,
     0x0234: wmf_state.select_palette,
     0x02FA: wmf_state.create_pen,
     0x02FB: wmf_state.create_font,
     0x02FC: wmf_state.create_brush,
+    0x0324: wmf_drawings.polygons,
+    0x0325: wmf_drawings.polyline,
     0x0410: wmf_state.scale_window,
     0x0412: wmf_state.scale_viewport,
     0x0415: wmf_state.clip,
     0x0416: wmf_state.clip,
     0x0418: wmf_drawings.ellipse,
+    0x041B: wmf_drawings.rectangle,
     0x041F: WmfSession.keep_with_colour,
     0x0521: wmf_text.text,
+    0x0538: wmf_drawings.polygons,
     0x061C: wmf_drawings.round_rectangle,
     0x0817: wmf_drawings.arc,
     0x081A: wmf_drawings.pie,
@@ -58,6 +62,6 @@ HANDLERS: dict[int, Handler] = {
 _UNSUPPORTED = {0x012A, 0x012B, 0x01F9, 0x0220, 0x0228, 0x0419, 0x0429, 0x0548, 0x06FF, 0x0922, 0x0B23, 0x0D33}
 
 _TEXTS = {0x0521, 0x0A32}
-_DRAWINGS = {0x0418, 0x041F, 0x061C, 0x0817, 0x081A, 0x0830, 0x0940, 0x0B41, 0x0F43}
+_DRAWINGS = {0x0324, 0x0325, 0x0418, 0x041B, 0x041F, 0x0538, 0x061C, 0x0817, 0x081A, 0x0830, 0x0940, 0x0B41, 0x0F43}
 
 WMF_STEPS = Steps(HANDLERS, frozenset(_UNSUPPORTED), frozenset(_TEXTS), frozenset(_DRAWINGS))

@@ -1,28 +1,75 @@
-"""Records of WMF that draw curves ([MS-WMF] 2.3.3)."""
+"""Records of WMF that draw lines and curves ([MS-WMF] 2.3.3)."""
 
 from __future__ import annotations
 
+from collections.abc import Callable
+from functools import partial
+
+from . import wmf_state, wmf_strokes
 from .affine import Point
 from .rounds import PageBox
-from .shapes import Figure
+from .shapes import Figure, corners_of
 from .wmf_session import WmfSession
 from .text import Box
 
 
-def _page_box(session: WmfSession) -> PageBox:
+def _box(session: WmfSession) -> Box:
     left, top, right, bottom = session.fields.several("left", "top", "right", "bottom")
-    return PageBox.ordered(Box(left, top, right, bottom), session.state.device)
+    return Box(left, top, right, bottom)
+
+
+def _page_box(session: WmfSession) -> PageBox:
+    return PageBox.ordered(_box(session), session.state.device)
+
+
+def _keep_or_stroke(session: WmfSession, lists: Callable[[], list[list[Point]]], is_closed: bool) -> None:
+    """Keeps a record of lines, unless its pen's strokes are replaced. `lists` gives its points, in page units."""
+    if not wmf_strokes.replaces_strokes(session):
+        session.keep()
+        return
+    device = session.state.device
+    figures = [Figure([device.apply(point) for point in points], is_closed) for points in lists()]
+    wmf_strokes.draw(session, figures)
+
+
+def _lists(session: WmfSession) -> list[list[Point]]:
+    return session.kind_at_hand.point_lists(session.data)
+
+
+def polygons(session: WmfSession) -> None:
+    """META_POLYGON and META_POLYPOLYGON."""
+    _keep_or_stroke(session, partial(_lists, session), True)
+
+
+def polyline(session: WmfSession) -> None:
+    """META_POLYLINE."""
+    _keep_or_stroke(session, partial(_lists, session), False)
+
+
+def rectangle(session: WmfSession) -> None:
+    """META_RECTANGLE."""
+    _keep_or_stroke(session, lambda: [corners_of(_box(session))], True)
+
+
+def line_to(session: WmfSession) -> None:
+    """META_LINETO."""
+    if not wmf_strokes.replaces_strokes(session):
+        wmf_state.move(session)
+        return
+    state, end = session.state, session.fields.point()
+    wmf_strokes.draw(session, [Figure([state.device.apply(state.position), state.device.apply(end)], False)])
+    state.position = end
 
 
 def ellipse(session: WmfSession) -> None:
     """META_ELLIPSE."""
-    session.draw(Figure(_page_box(session).oval().ring(session.budget), True))
+    wmf_strokes.draw_curve(session, Figure(_page_box(session).oval().ring(session.budget), True))
 
 
 def round_rectangle(session: WmfSession) -> None:
     """META_ROUNDRECT."""
     corner = session.fields.point("corner_width", "corner_height")
-    session.draw(Figure(_page_box(session).round_rectangle(corner, session.budget), True))
+    wmf_strokes.draw_curve(session, Figure(_page_box(session).round_rectangle(corner, session.budget), True))
 
 
 def _arc_points(session: WmfSession) -> list[Point]:
@@ -34,14 +81,14 @@ def _arc_points(session: WmfSession) -> list[Point]:
 
 def arc(session: WmfSession) -> None:
     """META_ARC."""
-    session.draw(Figure(_arc_points(session), False))
+    wmf_strokes.draw_curve(session, Figure(_arc_points(session), False))
 
 
 def chord(session: WmfSession) -> None:
     """META_CHORD."""
-    session.draw(Figure(_arc_points(session), True))
+    wmf_strokes.draw_curve(session, Figure(_arc_points(session), True))
 
 
 def pie(session: WmfSession) -> None:
     """META_PIE."""
-    session.draw(Figure([_page_box(session).centre(), *_arc_points(session)], True))
+    wmf_strokes.draw_curve(session, Figure([_page_box(session).centre(), *_arc_points(session)], True))

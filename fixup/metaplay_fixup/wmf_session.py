@@ -22,13 +22,17 @@ from .wmf_blocks import FineWindow, lines, polygons
 from .wmf_kinds import WMF
 
 _HEADER_SIZE = 18
-_BOX_AT = 6
+_BOX_AT, _INCH_AT = 6, 14
+# GDI shows a placeable file on a screen of so many pixels to the inch.
+_PIXELS_OF_INCH = 96
+# A plain file, which says nothing of its size, counts as so many pixels long.
+_PIXELS_OF_SIDE = 1024
 _PARTS_OF_PIXEL = 8
 _WIDEST = 0x7FFF
 
 
 class WmfSession(Session):
-    """A conversion of a WMF file."""
+    """A conversion of a WMF file. `pixel` is what counts as a pixel of its device, in fixed device units."""
 
     def __init__(self, metafile: Metafile, options: Options, texts: TextLayer | None) -> None:
         page = _first_map(metafile)
@@ -37,6 +41,7 @@ class WmfSession(Session):
         self.state.asked_window = page.window_extent
         self.state.set_page(page)
         self.slots = Slots()
+        self.pixel = _pixel(metafile, page)
 
     @property
     def is_scaled(self) -> bool:
@@ -108,6 +113,16 @@ def _first_map(metafile: Metafile) -> PageMap:
     if 0 in extent:
         raise Fault(FaultName.NoFrame)
     return PageMap(ANISOTROPIC, Point(left, top), extent, Point(0, 0), Point(abs(extent.x), abs(extent.y)))
+
+
+def _pixel(metafile: Metafile, page: PageMap) -> int:
+    """What counts as a pixel of the device, by the units of an inch that a placeable header has ([MS-WMF] 2.3.2.3); at
+    least a unit.
+    """
+    inch = numbers_at(metafile.head, _INCH_AT, 1, "H")[0] if metafile.form is Form.PLACEABLE else 0
+    if inch:
+        return max(ONE, inch * ONE // _PIXELS_OF_INCH)
+    return max(ONE, max(page.viewport_extent) * ONE // _PIXELS_OF_SIDE)
 
 
 def _first_extent(records: Sequence[bytes]) -> Point:

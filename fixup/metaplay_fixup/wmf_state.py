@@ -9,8 +9,9 @@ from .bitmaps import plays_as_stored
 from .clips import Clip
 from .extents import scaled_extent
 from .faults import Fault, FaultName
-from .objects import Brush, Palette, Pen, logical_font, read_colour, read_palette
+from .objects import NO_PALETTE, Brush, Palette, Pen, logical_font, read_colour, read_palette
 from .output import Action
+from .pens import PenLook, older_pen
 from .state import ANISOTROPIC, ISOTROPIC, TEXT_MODE
 from .text import Box, LogicalFont
 from .viewports import UNSCALED, ViewportScale
@@ -173,7 +174,7 @@ def background_colour(session: WmfSession) -> None:
 
 
 def move(session: WmfSession) -> None:
-    """META_MOVETO and META_LINETO, which both set the position; lines from it play as they are."""
+    """META_MOVETO, and META_LINETO as it is: both set the position, and lines from it play as they are."""
     state = session.state
     if session.kind_at_hand.name == "META_LINETO" and state.output_position != state.position:
         session.insert(session.move_record())
@@ -224,7 +225,16 @@ def create_pen(session: WmfSession) -> None:
     fields = session.fields
     is_null = fields["style"] & 15 == _NULL_PEN
     data = _with_colour(session, is_null)
-    session.slots.add(Pen(abs(fields["width"]), is_null, data))
+    look = None if is_null else _look(session, data)
+    session.slots.add(Pen(abs(fields["width"]), is_null, data, look))
+
+
+def _look(session: WmfSession, data: bytes) -> PenLook | None:
+    """What a pen's record in the output says of its strokes, if they may be replaced."""
+    if not session.has_strokes:
+        return None
+    style, width, reference = session.kind_at_hand.read(data).several("style", "width", "colour")
+    return older_pen(style, width, read_colour(reference, NO_PALETTE))
 
 
 def create_brush(session: WmfSession) -> None:
