@@ -137,6 +137,8 @@ class Launcher(Folder):
     def test_a_build_that_is_stopped_ends(self):
         (self.kit / "seconds").write_text("100")
         for number in (signal.SIGTERM, signal.SIGHUP, signal.SIGINT):
+            # (a shell can't trap a signal that is ignored when it starts, as under nohup)
+            self.addCleanup(signal.signal, number, signal.signal(number, signal.SIG_DFL))
             self.calls()
             run = self.begin("list", "x")
             self.wait_for(lambda: (self.kit / "calls").exists())
