@@ -7,6 +7,7 @@ pub mod PpmBothWays
 pub mod IndexLemmas
 pub mod WritingLawLemmas
 pub mod PartLemmas
+mod RepeatLemmas
 pub mod RowLemmas
 pub mod FieldLemmas
 pub mod SpanLemmas

@@ -16,6 +16,9 @@ use mapping::{Colour, Mix};
 /// The number of repeating colours.
 const PERIOD: usize = 8;
 
+/// With so many colours a copy of any size takes less time than copies of eight.
+const BLOCK: usize = 256;
+
 /// Fills the part, whose first colour is in this column, with the stripes' colours, each at its column modulo 8, by
 /// copies of eight. The last copy is aligned to the end of the part.
 pub(crate) fn fill_with_stripes(part: &mut [Colour], column: u32, stripes: &Stripes)
@@ -45,7 +48,7 @@ fn put_few_stripes(part: &mut [Colour], column: u32, stripes: &Stripes)
     }
 }
 
-/// Fills the part with one colour, by copies of eight. The last copy is aligned to the end of the part.
+/// Fills the part with one colour: some of it by copies of eight, then the rest by copies of these.
 pub(crate) fn fill_with(part: &mut [Colour], splat: &Splat)
     ensures { EachIs (length part.old) part.new (λ k any. splat.now.colour) }
 {
@@ -53,9 +56,34 @@ pub(crate) fn fill_with(part: &mut [Colour], splat: &Splat)
         put_few(part, splat.colour);
         return;
     }
+    let first = part.len().min(BLOCK);
+    fill_by_eights(&mut part[..first], splat);
+    repeat_first(part, first);
+}
+
+/// Fills the part with one colour, by copies of eight. The last copy is aligned to the end of the part.
+fn fill_by_eights(part: &mut [Colour], splat: &Splat)
+    requires { 8 ≤ length part.old }
+    ensures { EachIs (length part.old) part.new (λ k any. splat.now.colour) }
+{
     repeat_whole(part, &splat.eight);
     let last = part.len() - PERIOD;
     copy_at(part, last, &splat.eight);
+}
+
+/// Fills the part with the colour that all of the first colours have.
+fn repeat_first(part: &mut [Colour], first: usize)
+    requires some { 1 ≤ first }
+    requires within { first ≤ length part.old }
+    ensures { (colour : Colour) → EachIs first part.old (λ k any. colour) → EachIs (length part.old) part.new (λ k any. colour) }
+{
+    let mut filled = first;
+    while filled < part.len() {
+        let (done, rest) = part.split_at_mut(filled);
+        let count = first.min(rest.len());
+        rest[..count].copy_from_slice(&done[..count]);
+        filled += count;
+    }
 }
 
 /// Sets a few colours to this one.

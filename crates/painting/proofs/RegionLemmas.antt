@@ -1,6 +1,6 @@
 -- A shape is painted row by row, in a region that contains everything visible of it.
-use Rattle.std.proofs.Common.{◌≡◌, ℕ, ◌+◌, ◌<◌, ◌≤◌, Bool, true, ◌&&◌, arith, ◌∙◌}
-use Rattle.std.proofs.lemmas.Bool.{and_parts, and_from}
+use Rattle.std.proofs.Common.{◌≡◌, ℕ, ◌+◌, ◌<◌, ◌≤◌, Bool, true, false, ◌&&◌, arith, sym, ◌∙◌}
+use Rattle.std.proofs.lemmas.Bool.{and_parts, and_from, true≢false}
 use Rattle.mapping.specs.TestLaws.{same_test}
 use Rattle.mapping.specs.declared.geometry.Rect.{Rect}
 use Rattle.canvas.specs.CanvasState.{CanvasState, HasRow}
@@ -23,15 +23,9 @@ use Rattle.painting.proofs.TestLemmas.{column_from, column_true}
 module _
     (paint : PaintValue) (shape : ℕ → ℕ → Bool) (canvas : CanvasState) (laws : WritingLaws) (whole : IsWhole canvas)
     (region : Region) (visible : HasVisible paint.clip shape canvas region) where
-  -- without a column there is nothing to paint
-  pub none_seen : region.columns.to ≤ region.columns.from → PaintsShape paint shape canvas canvas
-  none_seen none = nothing_painted paint shape laws canvas whole
-      (λ x y held h.
-      let there = seen paint shape canvas region visible x y held h in
-      let column = column_true region.columns.from region.columns.to x (and_parts (in_span region.columns x) (in_span region.rows y) there).0 in
-      let low = column.0 in
-      let high = column.1 in
-      omega (arith, low, high, none))
+  -- without a pixel there is nothing to paint
+  pub none_seen : ((x y : ℕ) → in_region region x y ≡ false) → PaintsShape paint shape canvas canvas
+  none_seen none = nothing_painted paint shape laws canvas whole (λ x y held h. true≢false (sym (seen paint shape canvas region visible x y held h) ∙ none x y))
 
   -- no row is painted before the first
   pub rows_begun : HasRowsPainted paint shape region.rows.from canvas canvas

@@ -16,7 +16,7 @@ use crate::fill_spans::FillSpans;
 use crate::fill_style::FillStyle;
 use crate::outline_rows::{Part, paint_rows, rule_of};
 use crate::region_spans::RegionSpans;
-use crate::regions::{visible_in, whole_law};
+use crate::regions::{has_no_pixel, visible_in, whole_law};
 use crate::row_op_scratch::RowOpScratch;
 use crate::scratch::DrawingScratch;
 use crate::seen_columns::uncut_part;
@@ -46,7 +46,7 @@ pub(crate) fn fill_inside<O: Outline + Copy>(
     writing_law();
     whole_law(canvas);
     let drawn = visible_in(canvas, paint.clip, bounds);
-    if drawn.columns.from >= drawn.columns.to {
+    if has_no_pixel(drawn) {
         return false;
     }
     let rule = rule_of(paint.modes.fill_mode);
@@ -136,7 +136,7 @@ fn fill_box_by_rows(
     whole_law(canvas);
     let drawn = visible_in(canvas, paint.clip, inside);
     let columns = drawn.columns;
-    if columns.from >= columns.to {
+    if has_no_pixel(drawn) {
         return;
     }
     let hatch = paint.hatch_rows(drawn.rows);

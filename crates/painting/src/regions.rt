@@ -1,6 +1,6 @@
 //! The part of a surface to which a drawing may write.
 
-ghost use Rattle.std.specs.Prelude.{◌≡◌, ◌≤◌, ◌<◌, ◌+◌, ◌*◌, ◌^◌, ◌&&◌, ◌↔◌, ◌+ℤ◌, ◌-ℤ◌, ◌*ℤ◌, ◌<ℤ◌, Bool, IsTrue, int_lt, pos, true, ℕ};
+ghost use Rattle.std.specs.Prelude.{◌≡◌, ◌≤◌, ◌<◌, ◌+◌, ◌*◌, ◌^◌, ◌&&◌, ◌↔◌, ◌+ℤ◌, ◌-ℤ◌, ◌*ℤ◌, ◌<ℤ◌, Bool, IsFalse, IsTrue, false, int_lt, pos, true, ℕ};
 ghost use Rattle.canvas.specs.CanvasState.{HasPixel};
 ghost use Rattle.canvas.specs.WritingLaws.{IsWhole};
 ghost use Rattle.mapping.specs.PixelBoxes.{in_box, is_from_to};
@@ -62,6 +62,14 @@ pub(crate) fn visible_in(canvas: &Canvas, clip: &Clip, inside: Rect) -> Region
     ensures boxed { (x y : ℕ) → in_region result x y ≡ true → in_box inside x y ≡ true }
 {
     common(visible(canvas, clip), inside)
+}
+
+/// Whether a region has no pixel.
+pub(crate) fn has_no_pixel(region: Region) -> bool
+    ensures none { IsTrue result → (x y : ℕ) → in_region region x y ≡ false }
+    ensures columns { IsFalse result → region.columns.from < region.columns.to }
+{
+    region.columns.from >= region.columns.to || region.rows.from >= region.rows.to
 }
 
 /// The rows of a canvas.

@@ -18,13 +18,13 @@ use crate::lone_line::lone_line;
 use crate::mask_stroking::stroke_by_mask;
 use crate::outline_rows::{Part, paint_rows};
 use crate::rectangles::{LineList, box_lines, has_inside};
-use crate::regions::{Bounds, visible_in, whole_law};
+use crate::regions::{Bounds, has_no_pixel, visible_in, whole_law};
 use crate::row_op::full;
 use crate::row_painter::{RowOps, RowPainter};
 use crate::scratch::DrawingScratch;
 use crate::stroke::Stroke;
 use crate::visited_mask::VisitedMask;
-use crate::visited_mask_costs::{covers_much, visited_mask_pays};
+use crate::visited_mask_costs::{shares_of, stroke_mask_pays, visited_mask_pays};
 use crate::visiting::{begin_visited_mask, visit_lines};
 use crate::wide_stroking::{stroke_kept_wide, stroke_wide_lines};
 use crate::widening::widened;
@@ -91,7 +91,7 @@ fn stroke_thin_lines<O: Outline + Copy>(
         return;
     }
     let drawn = visible_in(canvas, stroke.clip, lines.bounds.on_surface());
-    if drawn.columns.from >= drawn.columns.to {
+    if has_no_pixel(drawn) {
         return;
     }
     let mut placed = outline;
@@ -124,8 +124,7 @@ pub(crate) fn stroke_kept(
 }
 
 /// Strokes the lines that the row buffer has taken by a nib of one pixel, in a region that contains everything visible
-/// of them: through the stroke mask if the lines have more pixels than the region, through the visited mask if it can be
-/// used and costs less, or else by rows of spans.
+/// of them: through the stroke mask or the visited mask if it costs the least, or else by rows of spans.
 fn stroke_kept_thin(
     canvas: &mut Canvas,
     scratch: &mut DrawingScratch,
@@ -148,13 +147,14 @@ fn stroke_kept_thin(
         ..
     } = &mut *scratch;
     let kept = LineList { rest: rows.lines() };
-    if covers_much(kept, drawn) {
+    let shares = shares_of(kept, drawn);
+    if stroke_mask_pays(shares, drawn, stroke.clip) {
         if let Some(mask) = mask {
             stroke_by_mask(canvas, mask, kept, drawn, stroke);
             return;
         }
     }
-    if visited_mask_pays(kept, drawn, stroke.clip) {
+    if visited_mask_pays(shares, drawn, stroke.clip) {
         if let Some(visited) = visited {
             if begin_visited_mask(visited, stroke.clip, drawn) {
                 stroke_by_visited_mask(canvas, visited, kept, stroke);

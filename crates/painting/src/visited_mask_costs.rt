@@ -1,5 +1,5 @@
-//! Estimates whether a stroke costs less by a visited mask or by rows of spans. This chooses the method and doesn't
-//! affect what is painted.
+//! Estimates whether a stroke costs less by a mask or by rows of spans. This chooses the method and doesn't affect what is
+//! painted.
 
 ghost use Rattle.painting.specs.Regions.{IsOfSide};
 
@@ -10,13 +10,16 @@ use span_fill::{Line, Outline, Region, Span};
 /// The number of a line's pixels that take about as long through the visited mask as the line's spans take in one row.
 const STEPS_A_ROW: usize = 4;
 
+/// To clear and read so many pixels of a stroke mask takes no longer than a line's spans in one row.
+const PIXELS_A_ROW: usize = 64;
+
 /// For a line with fewer columns and rows than this, both methods cost about the same.
 const SHORT: u32 = 16;
 
 /// An estimate of what an outline's long lines have in a box: the number of pixels of all of them, and the sum of their
 /// numbers of rows.
 #[derive(Clone, Copy)]
-struct Shares {
+pub(crate) struct Shares {
     steps: usize,
     rows: usize,
 }
@@ -54,29 +57,32 @@ impl Shares {
     }
 }
 
-/// Whether the visited mask of a box costs less than rows of spans. All lines are examined, so the result doesn't
-/// depend on their order. (Clearing one row of the mask takes less time than advancing to the next row, so the size of
-/// the box doesn't matter.)
-pub(crate) fn visited_mask_pays<O: Outline + Copy>(outline: O, drawn: Region, clip: &Clip) -> bool
+/// Whether the visited mask of a box costs less than rows of spans. (Clearing one row of the mask takes less time than
+/// advancing to the next row, so the size of the box doesn't matter.)
+pub(crate) fn visited_mask_pays(shares: Shares, drawn: Region, clip: &Clip) -> bool
     requires columns { IsOfSide drawn.columns }
     requires rows { IsOfSide drawn.rows }
 {
     if pixels(drawn) == 0 || !clip.cut_boxes().is_empty() {
         return false;
     }
-    is_narrow(drawn) || shares_of(outline, drawn).are_for_visited()
+    is_narrow(drawn) || shares.are_for_visited()
 }
 
-/// Whether an outline's long lines have so many rows in a box that many of them cover the same pixels.
-pub(crate) fn covers_much<O: Outline + Copy>(outline: O, drawn: Region) -> bool
+/// Whether the stroke mask of a box costs less than the visited mask, or if that can't be used or costs more, than rows of
+/// spans. The stroke mask is cleared and read whole, but to mark a pixel in it costs the least.
+pub(crate) fn stroke_mask_pays(shares: Shares, drawn: Region, clip: &Clip) -> bool
     requires columns { IsOfSide drawn.columns }
     requires rows { IsOfSide drawn.rows }
 {
-    shares_of(outline, drawn).rows > pixels(drawn)
+    if visited_mask_pays(shares, drawn, clip) {
+        return shares.rows > pixels(drawn);
+    }
+    shares.rows > pixels(drawn) / PIXELS_A_ROW
 }
 
-/// The shares of an outline's long lines in a box.
-fn shares_of<O: Outline + Copy>(outline: O, drawn: Region) -> Shares
+/// The shares of an outline's long lines in a box. All lines are examined, so the result doesn't depend on their order.
+pub(crate) fn shares_of<O: Outline + Copy>(outline: O, drawn: Region) -> Shares
     requires columns { IsOfSide drawn.columns }
     requires rows { IsOfSide drawn.rows }
 {

@@ -15,7 +15,7 @@ use crate::lone_line::lone_line;
 use crate::mask_stroking::stroke_by_mask;
 use crate::reached_part::reached_part;
 use crate::rectangles::LineList;
-use crate::regions::{visible_in, whole_law};
+use crate::regions::{has_no_pixel, visible_in, whole_law};
 use crate::scratch::DrawingScratch;
 use crate::stroke::Stroke;
 use crate::stroking::{StrokedLines, paint_begun};
@@ -29,7 +29,7 @@ use span_fill::{Line, Outline, Region, StrokeMask, WideLine};
 const COLUMNS_A_LINE: u32 = 256;
 
 /// To look at so many lines takes about as long as to clear and read a mask of the largest band.
-const MANY_LINES: usize = 1024;
+const LINES_A_MASK: usize = 1024;
 
 /// Strokes the lines of an outline by a nib of several pixels. A lone line is painted row by row, if the clip cuts no
 /// boxes out. The row buffer keeps other lines if they are read more than once, so that each is placed once.
@@ -52,7 +52,7 @@ pub(crate) fn stroke_wide_lines<O: Outline + Copy>(
     whole_law(canvas);
     let outline = lines.outline;
     let drawn = visible_in(canvas, stroke.clip, lines.bounds.on_surface());
-    if drawn.columns.from >= drawn.columns.to {
+    if has_no_pixel(drawn) {
         return;
     }
     if let Some(line) = lone_uncut_line(outline, lines.points, stroke.clip) {
@@ -128,7 +128,7 @@ fn reached_of<O: Outline + Copy>(outline: O, count: usize, nib: Nib, drawn: Regi
     ensures part { IsPartOf drawn result }
     ensures all { HasAllOf drawn (in_wide_stroke nib (O.lines outline)) result }
 {
-    if count > MANY_LINES {
+    if count > LINES_A_MASK {
         return drawn;
     }
     reached_part(outline, nib, drawn)

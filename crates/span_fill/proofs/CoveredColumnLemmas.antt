@@ -2,7 +2,7 @@
 use Rattle.std.proofs.Common.{◌≡◌, ℕ, ◌+◌, ◌<◌, true, ℤ, pos, ◌+ℤ◌, ◌-ℤ◌, ◌≤ℤ◌, ◌<ℤ◌, arith, ◌∙◌}
 use Rattle.std.proofs.lemmas.Int.{ints, by_lt_z}
 use Rattle.mapping.specs.Nibs.{IsNib, reach_after, reach_before}
-use Rattle.span_fill.specs.MaskCovers.{is_in_region, is_in_rows, tall_nib, tall_row}
+use Rattle.span_fill.specs.MaskCovers.{EndsBefore, EndsFrom, is_in_region, is_in_rows, tall_nib, tall_row}
 use Rattle.span_fill.specs.MaskFrames.{row_at}
 use Rattle.span_fill.specs.Spans.{in_span}
 use Rattle.span_fill.specs.StrokeMasks.{height_of}
@@ -28,6 +28,37 @@ between_ends line u v least most a b c d on =
     let has = on_line_has (record { l = least; t = line.to.y; r = most; b = line.from.y }) line u v
     (record { from = record { left = a; top = up; right = c; bottom = omega (arith, ints) }; to = record { left = b; top = omega (arith, ints); right = d; bottom = up } }) on in
     (has.left, has.right))
+
+-- and between their rows
+between_rows : (line : Line) (u v least most : ℤ) → least ≤ℤ line.from.y → least ≤ℤ line.to.y → line.from.y ≤ℤ most → line.to.y ≤ℤ most → on_line line u v ≡ true → (least ≤ℤ v) × (v ≤ℤ most)
+between_rows line u v least most a b c d on =
+    by_lt_z line.from.x line.to.x
+    (λ (right : line.from.x <ℤ line.to.x).
+    let has = on_line_has (record { l = line.from.x; t = least; r = line.to.x; b = most }) line u v
+    (record { from = record { left = omega (arith, ints); top = a; right = omega (arith, ints, right); bottom = c }; to = record { left = omega (arith, ints, right); top = b; right = omega (arith, ints); bottom = d } }) on in
+    (has.top, has.bottom))
+    (λ (left : line.to.x ≤ℤ line.from.x).
+    let has = on_line_has (record { l = line.to.x; t = least; r = line.from.x; b = most }) line u v
+    (record { from = record { left = left; top = a; right = omega (arith, ints); bottom = c }; to = record { left = omega (arith, ints); top = b; right = left; bottom = d } }) on in
+    (has.top, has.bottom))
+
+-- a line has no pixel after both its ends
+pub ends_before : (line : Line) (row u v : ℤ) → EndsBefore row line → on_line line u v ≡ true → v <ℤ row
+ends_before line row u v ends on =
+    let a = ends.0 in
+    let b = ends.1 in
+    by_lt_z line.from.y line.to.y
+    (λ (down : line.from.y <ℤ line.to.y). let e = (between_rows line u v line.from.y line.to.y (omega (arith, ints)) (omega (arith, ints, down)) (omega (arith, ints, down)) (omega (arith, ints)) on).1 in omega (arith, ints, b, e))
+    (λ (up : line.to.y ≤ℤ line.from.y). let e = (between_rows line u v line.to.y line.from.y up (omega (arith, ints)) (omega (arith, ints)) up on).1 in omega (arith, ints, a, e))
+
+-- and none before both
+pub ends_from : (line : Line) (row u v : ℤ) → EndsFrom row line → on_line line u v ≡ true → row ≤ℤ v
+ends_from line row u v ends on =
+    let a = ends.0 in
+    let b = ends.1 in
+    by_lt_z line.from.y line.to.y
+    (λ (down : line.from.y <ℤ line.to.y). let e = (between_rows line u v line.from.y line.to.y (omega (arith, ints)) (omega (arith, ints, down)) (omega (arith, ints, down)) (omega (arith, ints)) on).0 in omega (arith, ints, a, e))
+    (λ (up : line.to.y ≤ℤ line.from.y). let e = (between_rows line u v line.to.y line.from.y up (omega (arith, ints)) (omega (arith, ints)) up on).0 in omega (arith, ints, b, e))
 
 -- what the nib covers in a region is near to a column between the line's ends
 pub around_ends :

@@ -2,10 +2,11 @@
 use Rattle.std.proofs.Common.{◌≡◌, ℕ, ◌+◌, ◌-◌, ◌<◌, ◌≤◌, Bool, true, false, ◌||◌, nat_eq, pos, refl, ap, sym, ◌∙◌, arith}
 use Rattle.std.proofs.Math.Bool.{or-false}
 use Rattle.std.proofs.lemmas.Bool.{and_left, and_parts, ne_eqb, or_left}
+use Rattle.std.proofs.lemmas.Int.{ints}
 use Rattle.mapping.specs.TestLaws.{by_either, same_test}
 use Rattle.span_fill.specs.BitRows.{BitRowsState, has_bit}
-use Rattle.span_fill.specs.MaskCovers.{AreAmong, AreKnown, CoversLine, CoversRows, CoversToo, IsSpanCovered, KeepsLastRow, KnowsCovered, covers_in, is_covered, is_in_region, is_in_rows, last_row}
-use Rattle.span_fill.specs.MaskFrames.{IsMaskFrame, depth_of, marks, marks_at, marks_in, mask_row, row_at, row_count, spare_of}
+use Rattle.span_fill.specs.MaskCovers.{AreAmong, AreKnown, CoversLine, CoversRows, CoversToo, EndsBefore, EndsFrom, IsSpanCovered, KeepsLastRow, KnowsCovered, covers_in, is_covered, is_in_region, is_in_rows, last_row}
+use Rattle.span_fill.specs.MaskFrames.{IsMaskFrame, depth_of, first_row, marks, marks_at, marks_in, mask_row, row_at, row_count, spare_of}
 use Rattle.span_fill.specs.MaskMarks.{MarksLine, MarksRows, SetsToo}
 use Rattle.span_fill.specs.StrokeMasks.{height_of}
 use Rattle.span_fill.specs.WideStrokes.{any_below, on_wide_line, row_of}
@@ -13,7 +14,8 @@ use Rattle.span_fill.specs.declared.line.Line.{Line}
 use Rattle.span_fill.specs.declared.mask_frame.MaskFrame.{MaskFrame}
 use Rattle.span_fill.specs.declared.span.Span.{Span}
 use Rattle.span_fill.proofs.AnyLemmas.{any_none, any_or, any_same}
-use Rattle.span_fill.proofs.CoverLemmas.{any_from, any_passes}
+use Rattle.span_fill.proofs.CoverLemmas.{any_from, any_passes, covered, reaches}
+use Rattle.span_fill.proofs.CoveredColumnLemmas.{ends_before, ends_from}
 use Rattle.span_fill.proofs.MaskRowLemmas.{row_of_region}
 use Rattle.span_fill.proofs.SharedRowLemmas.{three_parts}
 
@@ -82,6 +84,34 @@ line_spared frame line bits columns covered there x y wide high =
     (λ (h : is_covered frame bits x y ≡ true). h)
     (λ (h : on ≡ true).
     covered x y wide high (there x wide (any_from (λ y. on_wide_line frame.nib line (pos (x + frame.region.columns.from)) (pos (y + frame.region.rows.from))) (height_of frame.region) y high h))))
+
+-- what is covered where nothing is added
+nothing_added : (before added : Bool) → (added ≡ true → ⊥) → before ≡ (before || added)
+nothing_added true added none = refl
+nothing_added false true none = absurd (none refl)
+nothing_added false false none = refl
+
+-- nor does a line above the rows from which the nib reaches the region
+pub above_spared : (frame : MaskFrame) (line : Line) (bits : BitRowsState) → EndsBefore (first_row frame) line → CoversLine frame line bits bits
+above_spared frame line bits ends x y wide high =
+    nothing_added (is_covered frame bits x y) (on_wide_line frame.nib line (pos (x + frame.region.columns.from)) (pos (y + frame.region.rows.from)))
+    (λ on.
+    let near = covered frame.nib line (pos (x + frame.region.columns.from)) (pos (y + frame.region.rows.from)) on in
+    let before = ends_before line (first_row frame) near.u near.v ends near.on in
+    let below = near.below in
+    omega (arith, ints, before, below))
+
+-- or below them
+pub below_spared : (frame : MaskFrame) (line : Line) (bits : BitRowsState) → IsMaskFrame frame → EndsFrom (row_at frame (row_count frame)) line → CoversLine frame line bits bits
+below_spared frame line bits is ends x y wide high =
+    nothing_added (is_covered frame bits x y) (on_wide_line frame.nib line (pos (x + frame.region.columns.from)) (pos (y + frame.region.rows.from)))
+    (λ on.
+    let near = covered frame.nib line (pos (x + frame.region.columns.from)) (pos (y + frame.region.rows.from)) on in
+    let after = ends_from line (row_at frame (row_count frame)) near.u near.v ends near.on in
+    let above = near.above in
+    let some = is.nib.y.not_empty in
+    let reach = reaches frame.nib.y in
+    omega (arith, ints, after, above, high, some, reach))
 
 -- columns in which all pixels are covered stay so
 pub span_still : (frame : MaskFrame) (line : Line) (old new : BitRowsState) (columns : Span) → CoversLine frame line old new → IsSpanCovered frame old columns → IsSpanCovered frame new columns

@@ -1,5 +1,5 @@
 -- What a mask covers once its rows are widened, and in which columns that is the whole region.
-use Rattle.std.specs.Prelude.{◌≡◌, ℕ, ◌+◌, ◌-◌, ◌*◌, ◌<◌, ℤ, pos, ◌+ℤ◌, ◌≤ℤ◌, Bool, true, ◌||◌, List}
+use Rattle.std.specs.Prelude.{◌≡◌, ℕ, ◌+◌, ◌-◌, ◌*◌, ◌<◌, ℤ, pos, ◌+ℤ◌, ◌≤ℤ◌, ◌<ℤ◌, Bool, true, ◌||◌, List}
 use Rattle.mapping.specs.Nibs.{reach_after}
 use Rattle.mapping.specs.declared.nib.Nib.{Nib}
 use Rattle.span_fill.specs.BitRows.{BitRowsState, has_bit}
@@ -95,3 +95,11 @@ tall_nib frame count = record { x = frame.nib.x; y = count }
 
 abbrev pub tall_row : MaskFrame → ℕ → ℕ → ℤ
 tall_row frame from count = row_at frame from +ℤ pos (reach_after count)
+
+-- both ends of a line lie in rows before this one
+abbrev pub EndsBefore : ℤ → Line → Type 0
+EndsBefore row line = (line.from.y <ℤ row) × (line.to.y <ℤ row)
+
+-- both ends of a line lie in this row or in rows after it
+abbrev pub EndsFrom : ℤ → Line → Type 0
+EndsFrom row line = (row ≤ℤ line.from.y) × (row ≤ℤ line.to.y)

@@ -37,7 +37,7 @@ pub(crate) fn find_known(bits: &mut BitRows, frame: MaskFrame) -> Span
     longest_known(bits, frame)
 }
 
-/// Finds the columns that are covered in each row of the region, or most of them, by reading one row of `depth`.
+/// Finds columns that are covered in each row of the region: those that are set in each `depth`th row, and in the last one.
 fn find_covered(bits: &mut BitRows, frame: MaskFrame)
     requires frame { IsMaskFrame frame }
     requires size { HasRows frame bits.old }
@@ -51,8 +51,9 @@ fn find_covered(bits: &mut BitRows, frame: MaskFrame)
     bits.set(last, 0, frame.width());
     let mut row = depth - 1;
     while row < height + depth - 1 {
-        // (each `depth` rows that follow one another have one of these)
-        bits.keep_common(last, row);
+        // (each `depth` rows of the mask, from a row of the region on, have one of these)
+        let read = row.min(height - 1);
+        bits.keep_common(last, read);
         row += depth;
     }
 }

@@ -3,8 +3,8 @@
 ghost use Rattle.std.specs.Prelude.{◌≡◌, ◌+◌, ◌-◌, ◌*◌, ◌<◌, ◌≤◌, IfSome, IsTrue};
 ghost use Rattle.span_fill.specs.BitRows.{HasSize};
 ghost use Rattle.span_fill.specs.Lines.{HasNearEnds};
-ghost use Rattle.span_fill.specs.MaskCovers.{CoversLine, CoversLines, CoversRows, IsSpanCovered, KnowsCovered};
-ghost use Rattle.span_fill.specs.MaskFrames.{IsMaskFrame, row_count, spare_of};
+ghost use Rattle.span_fill.specs.MaskCovers.{CoversLine, CoversLines, CoversRows, EndsBefore, EndsFrom, IsSpanCovered, KnowsCovered};
+ghost use Rattle.span_fill.specs.MaskFrames.{IsMaskFrame, first_row, row_at, row_count, spare_of};
 ghost use Rattle.span_fill.specs.MaskMarks.{HasRows, HasStroke, IsClear};
 ghost use Rattle.span_fill.specs.StrokeMasks.{height_of};
 
@@ -45,7 +45,7 @@ fn cover_lines<O: Outline>(bits: &mut BitRows, outline: &mut O, frame: MaskFrame
     ensures lines { CoversLines frame (O.lines outline.old) bits.old bits.new }
     ensures size { HasSize bits.new bits.old.rows bits.old.columns }
 {
-    let most = frame.reading_rows();
+    let mut most = frame.reading_rows();
     let (mut rows, mut known) = (0_u32, None);
     while let Some(line) = outline.next_line() {
         let marked = cover_next(bits, line, frame, known);
@@ -57,6 +57,8 @@ fn cover_lines<O: Outline>(bits: &mut BitRows, outline: &mut O, frame: MaskFrame
                 return;
             }
             (rows, known) = (0, if_any(columns));
+            // (few columns at first: to look for them as often later would take long)
+            most = most.saturating_add(most / 16);
         }
     }
 }
@@ -82,10 +84,33 @@ fn cover_next(bits: &mut BitRows, line: Line, frame: MaskFrame, known: Option<Sp
     ensures known { KnowsCovered frame bits.new }
     ensures size { HasSize bits.new bits.old.rows bits.old.columns }
 {
+    if is_above(line, frame) || is_below(line, frame) {
+        return 0;
+    }
     match known {
         Some(columns) => cover_line(bits, line, frame, columns),
         None => cover_new_line(bits, line, frame),
     }
+}
+
+/// Whether both ends of a line lie above the rows from which the nib reaches the region.
+#[inline(always)]
+fn is_above(line: Line, frame: MaskFrame) -> bool
+    requires { IsMaskFrame frame }
+    ensures { IsTrue result → EndsBefore (first_row frame) line }
+{
+    let first = frame.first_row();
+    line.from.y < first && line.to.y < first
+}
+
+/// Whether both ends lie below these rows.
+#[inline(always)]
+fn is_below(line: Line, frame: MaskFrame) -> bool
+    requires { IsMaskFrame frame }
+    ensures { IsTrue result → EndsFrom (row_at frame (row_count frame)) line }
+{
+    let end = frame.row_at(frame.row_count());
+    end <= line.from.y && end <= line.to.y
 }
 
 /// The same for a line while nothing is known to be covered.

@@ -12,16 +12,18 @@ ghost use Rattle.span_fill.specs.MaskMarks.{HasRows, IsAround, IsNarrowPart, Mar
 ghost use Rattle.span_fill.specs.MaskRuns.{IsRunOf};
 ghost use Rattle.span_fill.specs.StrokeMasks.{height_of};
 
-use crate::axes::runs_y_major;
 use crate::bit_rows::BitRows;
 use crate::line::Line;
 use crate::mask_frame::MaskFrame;
-use crate::mask_runs::{Runs, mark_run, runs_of};
+use crate::mask_runs::{MOST_COLUMNS, Runs, mark_run, runs_of};
 use crate::pixel::Pixel;
 use crate::span::Span;
 use crate::steps::LineSteps;
 use crate::wide_line::{WideLine, WideRow};
 use mapping::{Nib, Point, reach_after, reach_before};
+
+/// With so many pixels in each of a line's rows, both ways take about as long.
+const PIXELS_A_ROW: u32 = 3;
 
 /// Marks what the nib's columns cover along a line. Returns how many rows were marked one by one.
 #[inline]
@@ -62,7 +64,7 @@ pub(crate) fn mark_rows(
     ensures rows { MarksRows frame line from count bits.old bits.new }
     ensures size { HasSize bits.new bits.old.rows bits.old.columns }
 {
-    if is_steep_inside(line) {
+    if has_few_a_row(line, frame.nib) && is_on_surface(line) {
         mark_steps(bits, line, frame, from, count)
     } else {
         mark_wide_rows(bits, line, frame, from, count)
@@ -93,8 +95,7 @@ fn mark_wide_rows(bits: &mut BitRows, line: Line, frame: MaskFrame, from: u32, c
     marked
 }
 
-/// The same, step by step, for a line within the largest surface. A y-major line has one pixel in each row, so that this
-/// takes fewer instructions.
+/// The same, step by step, for a line within the largest surface.
 fn mark_steps(bits: &mut BitRows, line: Line, frame: MaskFrame, from: u32, count: u32) -> u32
     requires frame { IsMaskFrame frame }
     requires size { HasRows frame bits.old }
@@ -134,11 +135,19 @@ fn mark_around(bits: &mut BitRows, row: WideRow, frame: MaskFrame, runs: Option<
     }
 }
 
-/// Whether a line is y-major, and both its ends lie within the largest surface.
-fn is_steep_inside(line: Line) -> bool
+/// Whether a line has so few pixels in each row that to mark them one by one takes fewer instructions than to find where
+/// they begin and end. A nib of many columns marks them faster row by row, unless each row has one pixel.
+fn has_few_a_row(line: Line, nib: Nib) -> bool {
+    let across = line.to.x.abs_diff(line.from.x);
+    let down = line.to.y.abs_diff(line.from.y);
+    across <= down || (nib.x <= MOST_COLUMNS && across / PIXELS_A_ROW <= down)
+}
+
+/// Whether both ends of a line lie within the largest surface.
+fn is_on_surface(line: Line) -> bool
     ensures { IsTrue result → HasLine largest_surface line }
 {
-    runs_y_major(line) && is_inside(line.from) && is_inside(line.to)
+    is_inside(line.from) && is_inside(line.to)
 }
 
 /// Whether a point lies within the largest surface.

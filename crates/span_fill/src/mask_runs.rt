@@ -14,7 +14,7 @@ use crate::wide_line::WideRow;
 use mapping::{reach_after, reach_before};
 
 /// The most columns that are set at once.
-const MOST_COLUMNS: u16 = 64;
+pub(crate) const MOST_COLUMNS: u16 = 64;
 
 /// What is known before the first pixel of a line, so that each pixel costs little.
 #[derive(Clone, Copy, Debug)]

@@ -1,19 +1,17 @@
--- What the last copy doesn't reach was filled before.
-use Rattle.std.proofs.Common.{◌≡◌, ℕ, ◌+◌, ◌-◌, ◌%◌, length, ap, arith, get_or, inl, inr, sym, ◌∙◌}
-use Rattle.std.proofs.lemmas.Bool.{cases_lt}
+-- The first colours are filled, and the rest is like them.
+use Rattle.std.proofs.Common.{arith, ◌∙◌}
+use Rattle.std.proofs.Math.ListN.{drop, get_or-append}
+use Rattle.std.proofs.lemmas.List.{length-append, length-drop, length-take-le}
 use Rattle.canvas.proofs.parts.fill_with.Goals as goal
 
 pub returns : goal.returns
-returns c =
-    let splat = c.args.splat.now in
-    let last = length c.repeat_whole-last.new.part - 8 in
-    let same = c.repeat_whole-last.auto.part in
-    let long = c.if-part-lt-PERIOD.false in
-    let near = c.repeat_whole-last.ensures.all_but_few in
-    λ k d h. elim (cases_lt k last) [
-      | inl before ↦
-          c.copy_at.ensures.before k d (omega (arith, before)) ∙ c.repeat_whole-last.ensures.colours k d (omega (arith, before, near, long, same)) ∙ splat.same (k % 8) d (omega arith)
-      | inr after ↦
-          let at : last + (k - last) ≡ k = omega (arith, after) in
-          ap (λ (i : ℕ). get_or c.copy_at.new.part i d) (sym at) ∙ c.copy_at.ensures.here (k - last) d (omega (arith, after, h, long, same)) ∙ splat.same (k - last) d (omega (arith, after, h, long, same))
-    ]
+returns c = λ k any below.
+    let first = c.min-first.result in
+    let part = c.args.part.now in
+    let new = c.fill_by_eights.new.part in
+    let least = c.min-first.ensures in
+    let taken = length-take-le first part (omega (arith, least)) in
+    let filled = c.fill_by_eights.auto.part ∙ taken in
+    c.repeat_first.ensures c.args.splat.now.colour
+    (λ k any near. get_or-append new (drop first part) any k (omega (arith, near, filled)) ∙ c.fill_by_eights.ensures k any (omega (arith, near, taken)))
+    k any (omega (arith, below, length-append new (drop first part), length-drop first part, filled, least))

@@ -15,9 +15,9 @@ lone : (has : Bool) → (has || false) ≡ has
 lone true = refl
 lone false = refl
 
-pub returns-then-columns-clause-pixels : goal.returns-then-columns-clause-pixels
-returns-then-columns-clause-pixels c =
-    none_seen (fill_style_paint c.args.paint.now) (in_box c.args.inside) c.args.canvas.now c.writing_law.ensures c.whole_law.ensures.whole c.visible_in-drawn.result c.visible_in-drawn.ensures.visible c.if-columns.true
+pub returns-then-has_no_pixel-clause-pixels : goal.returns-then-has_no_pixel-clause-pixels
+returns-then-has_no_pixel-clause-pixels c =
+    none_seen (fill_style_paint c.args.paint.now) (in_box c.args.inside) c.args.canvas.now c.writing_law.ensures c.whole_law.ensures.whole c.visible_in-drawn.result c.visible_in-drawn.ensures.visible (c.has_no_pixel.ensures.none c.if-has_no_pixel.true)
 
 pub loop-y-init : goal.loop-y-init
 loop-y-init c =
@@ -34,7 +34,7 @@ pub read_row-kept-requires-clause-reads : goal.read_row-kept-requires-clause-rea
 read_row-kept-requires-clause-reads c =
     let part = c.uncut_part-painter.ensures in
     narrowed c.args.paint.now.source c.visible_in-drawn.result.columns c.uncut_part-painter.result c.loop-y.y part.first part.last
-    (columns_read c.args.paint.now.source c.args.inside c.visible_in-drawn.result c.visible_in-drawn.ensures.boxed c.requires.reads c.if-columns.false c.loop-y.y c.loop-y.auto.y c.loop-y-test.true)
+    (columns_read c.args.paint.now.source c.args.inside c.visible_in-drawn.result c.visible_in-drawn.ensures.boxed c.requires.reads (c.has_no_pixel.ensures.columns c.if-has_no_pixel.false) c.loop-y.y c.loop-y.auto.y c.loop-y-test.true)
 
 pub loop-y-preserved : goal.loop-y-preserved
 loop-y-preserved c =
@@ -76,7 +76,7 @@ put_row-requires c =
     let few = few_written c.writing_law.ensures _ _ c.args.canvas.now c.loop-y.canvas painted c.whole_law.ensures.pixels in
     let low = c.loop-y.auto.y in
     let high = c.loop-y-test.true in
-    let some = c.if-columns.false in
+    let some = (c.has_no_pixel.ensures.columns c.if-has_no_pixel.false) in
     let held = c.visible_in-drawn.ensures.visible.held in
     let right = held.right in
     let top = held.top in

@@ -9,16 +9,16 @@ use Rattle.painting.proofs.RowLemmas.{few_written}
 use Rattle.painting.proofs.VisibleLemmas.{no_cuts, painted_same, painted_uncut, seen_within}
 use Rattle.painting.proofs.filling.fill_inside.Goals as goal
 
-pub returns-then-drawn-clause-pixels : goal.returns-then-drawn-clause-pixels
-returns-then-drawn-clause-pixels g c =
+pub returns-then-has_no_pixel-clause-pixels : goal.returns-then-has_no_pixel-clause-pixels
+returns-then-has_no_pixel-clause-pixels g c =
     none_seen (fill_style_paint c.args.paint.now) (in_fill (fill_rule_of c.args.paint.now.modes.fill_mode) (g.O.Outline.lines c.args.outline)) c.args.canvas.now c.writing_law.ensures c.whole_law.ensures.whole c.visible_in-drawn.result
-    (seen_within _ _ _ c.args.canvas.now c.visible_in-drawn.result c.requires.within c.visible_in-drawn.ensures.visible) c.if-drawn.true
+    (seen_within _ _ _ c.args.canvas.now c.visible_in-drawn.result c.requires.within c.visible_in-drawn.ensures.visible) (c.has_no_pixel.ensures.none c.if-has_no_pixel.true)
 
 pub paint_rows-requires-clause-begun : goal.paint_rows-requires-clause-begun
 paint_rows-requires-clause-begun g c =
     let begun = c.begin_fill.ensures in
     let painter = c.painter-painter.ensures in
-    let some = c.if-drawn.false in
+    let some = c.has_no_pixel.ensures.columns c.if-has_no_pixel.false in
     let side = c.visible_in-drawn.ensures.rows.to in
     let lines = g.O.Outline.lines c.args.outline in
     let visible = seen_within (placed_value c.args.paint.now.clip.now) _ (in_fill (fill_rule_of c.args.paint.now.modes.fill_mode) lines) c.args.canvas.now c.visible_in-drawn.result c.requires.within c.visible_in-drawn.ensures.visible in

@@ -25,11 +25,11 @@ pub returns-in-Some-clause-few : goal.returns-in-Some-clause-few
 returns-in-Some-clause-few g c = few_written c.writing_law.ensures _ _ c.args.canvas.now c.step_line.new.canvas c.step_line.ensures c.whole_law.ensures.pixels
 
 -- what is visible of the lines lies in the region
-pub returns-then-drawn-clause-pixels : goal.returns-then-drawn-clause-pixels
-returns-then-drawn-clause-pixels g c =
+pub returns-then-has_no_pixel-clause-pixels : goal.returns-then-has_no_pixel-clause-pixels
+returns-then-has_no_pixel-clause-pixels g c =
     let shape = in_wide_stroke one_pixel (g.O.Outline.lines c.args.lines.outline) in
     none_seen (stroke_paint c.args.stroke.now) shape c.args.canvas.now c.writing_law.ensures c.whole_law.ensures.whole c.visible_in-drawn.result
-    (seen_within _ _ shape c.args.canvas.now c.visible_in-drawn.result (c.on_surface.ensures shape c.requires.within) c.visible_in-drawn.ensures.visible) c.if-drawn.true
+    (seen_within _ _ shape c.args.canvas.now c.visible_in-drawn.result (c.on_surface.ensures shape c.requires.within) c.visible_in-drawn.ensures.visible) (c.has_no_pixel.ensures.none c.if-has_no_pixel.true)
 
 pub stroke_kept_thin-requires-clause-visible : goal.stroke_kept_thin-requires-clause-visible
 stroke_kept_thin-requires-clause-visible g c =

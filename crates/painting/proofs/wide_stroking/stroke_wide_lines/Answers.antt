@@ -26,13 +26,13 @@ pub returns-in-Some-clause-few : goal.returns-in-Some-clause-few
 returns-in-Some-clause-few g c = few_written c.writing_law.ensures _ _ c.args.canvas.now c.mix_wide_line.new.canvas c.mix_wide_line.ensures c.whole_law.ensures.pixels
 
 -- what is visible of the lines lies in the region
-pub returns-then-drawn-clause-pixels : goal.returns-then-drawn-clause-pixels
-returns-then-drawn-clause-pixels g c =
+pub returns-then-has_no_pixel-clause-pixels : goal.returns-then-has_no_pixel-clause-pixels
+returns-then-has_no_pixel-clause-pixels g c =
     let stroke = c.args.stroke.now in
     let shape = in_wide_stroke stroke.nib (g.O.Outline.lines c.args.lines.outline) in
     let drawn = c.visible_in-drawn in
     none_seen (stroke_paint stroke) shape c.args.canvas.now c.writing_law.ensures c.whole_law.ensures.whole drawn.result
-    (seen_within _ _ shape c.args.canvas.now drawn.result (c.on_surface.ensures shape c.requires.within) drawn.ensures.visible) c.if-drawn.true
+    (seen_within _ _ shape c.args.canvas.now drawn.result (c.on_surface.ensures shape c.requires.within) drawn.ensures.visible) (c.has_no_pixel.ensures.none c.if-has_no_pixel.true)
 
 pub stroke_by_mask-requires-clause-visible : goal.stroke_by_mask-requires-clause-visible
 stroke_by_mask-requires-clause-visible g c =

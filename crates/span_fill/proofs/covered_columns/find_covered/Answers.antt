@@ -1,7 +1,9 @@
 -- A column whose bit is left was set in each row that was read, and each row of the region has one of these.
-use Rattle.std.proofs.Common.{◌≡◌, ◌+◌, ◌-◌, inl, inr, ap, arith, sym, ◌∙◌}
+use Rattle.std.proofs.Common.{◌≡◌, ◌+◌, ◌-◌, ◌<◌, min, inl, inr, ap, arith, sym, ◌∙◌}
 use Rattle.std.proofs.lemmas.Bool.{and_parts, cases_lt}
+use Rattle.std.proofs.lemmas.Grind.{common_steps}
 use Rattle.span_fill.specs.BitRows.{has_bit}
+use Rattle.span_fill.specs.MaskCovers.{last_row}
 use Rattle.span_fill.specs.MaskFrames.{depth_of}
 use Rattle.span_fill.proofs.AnyLemmas.{any_same}
 use Rattle.span_fill.proofs.CoverLemmas.{any_from}
@@ -18,18 +20,20 @@ loop-row-preserved c =
     let depth = c.depth-depth.ensures in
     let height = c.height-height.ensures.height in
     let more = c.loop-row-test.true in
+    let least : c.min-read.result ≡ min c.loop-row.row (c.height-height.result - 1) = grind (arith, common_steps) in
+    let within : c.min-read.result < last_row frame = omega (arith, least, height, some) in
     record {
       low = omega (arith, depth);
       same = λ x i wide below.
           c.keep_common.ensures.bits.others x i (rw columns wide) (omega (arith, rows, below)) (λ e. omega (arith, below, e, last)) ∙ there.same x i wide below;
       known = λ x y wide high near set.
           let common = c.keep_common.ensures.bits.common x (rw columns wide) in
-          let parts = and_parts (has_bit c.loop-row.bits x c.last_row-last.result) (has_bit c.loop-row.bits x c.loop-row.row) (sym common ∙ (ap (λ i. has_bit c.keep_common.new.self x i) last ∙ set)) in
+          let parts = and_parts (has_bit c.loop-row.bits x c.last_row-last.result) (has_bit c.loop-row.bits x c.min-read.result) (sym common ∙ (ap (λ i. has_bit c.keep_common.new.self x i) last ∙ set)) in
           elim (cases_lt c.loop-row.row (y + depth_of frame)) [
             | inl reached ↦
-                let place : y + (c.loop-row.row - y) ≡ c.loop-row.row = omega (arith, near, depth) in
-                any_from (λ d. has_bit c.args.bits.now x (y + d)) (depth_of frame) (c.loop-row.row - y) (omega (arith, reached, near, depth, place))
-                (ap (λ i. has_bit c.args.bits.now x i) place ∙ (sym (there.same x c.loop-row.row wide (omega (arith, more, height, depth, some))) ∙ parts.1))
+                let place : y + (c.min-read.result - y) ≡ c.min-read.result = omega (arith, near, depth, least, high, height) in
+                any_from (λ d. has_bit c.args.bits.now x (y + d)) (depth_of frame) (c.min-read.result - y) (omega (arith, reached, near, depth, place, least))
+                (ap (λ i. has_bit c.args.bits.now x i) place ∙ (sym (there.same x c.min-read.result wide within) ∙ parts.1))
             | inr passed ↦ there.known x y wide high passed (ap (λ i. has_bit c.loop-row.bits x i) (sym last) ∙ parts.0)
           ];
       size = record { row_count = c.keep_common.ensures.size.row_count ∙ there.size.row_count; column_count = c.keep_common.ensures.size.column_count ∙ there.size.column_count };
