@@ -19,8 +19,8 @@
 //!   file's records, and then the file is sound within the certificate's bound and writes (`answer_law`). `check`
 //!   returns that answer, or `OutOfMemory`, which is possible only if the file opens and the certificate can be read.
 //! - A file and a certificate that was accepted for it (`Cleared`) carry the result of `check`: the certificate fits
-//!   the file's records, and these are counted. The file was opened under the certificate's rules. So the file is sound within the certificate's bound and writes, whoever
-//!   made the value (`cleared_law`).
+//!   the file's records, and these are counted. The file was opened under the certificate's rules. So it is sound within
+//!   the certificate's bound and writes (`cleared_law`).
 //! - A prepared certificate is accepted. There is only one for a file and a bound, and no other accepted one asks for
 //!   less (`prepare`, `preparation_law`). So it is cleared without a check (`Prepared::clear`).
 //! - A file that plays at a bound has a certificate for it. What is prepared for a file is a certificate with all

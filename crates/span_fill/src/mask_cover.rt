@@ -57,7 +57,7 @@ fn cover_lines<O: Outline>(bits: &mut BitRows, outline: &mut O, frame: MaskFrame
                 return;
             }
             (rows, known) = (0, if_any(columns));
-            // (few columns at first: to look for them as often later would take long)
+            // (each time after a few more rows, so that looking takes a small part of the time)
             most = most.saturating_add(most / 16);
         }
     }
