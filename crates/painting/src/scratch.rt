@@ -11,8 +11,8 @@ use std::alloc::Global;
 /// The most lines of one drawing.
 const MAX_LINES: u32 = 1_048_576;
 
-/// So many lines may cover the same pixels again and again, also by a nib of one pixel.
-const MANY_LINES: u32 = 4096;
+/// So many lines of one pixel may take long by rows of spans, and a visited mask can't be used where boxes are cut out.
+const MANY_LINES: u32 = 16;
 
 /// The memory for drawings.
 ///
