@@ -8,6 +8,7 @@ use Rattle.span_fill.specs.BitRows.{BitRowsState, has_bit}
 use Rattle.span_fill.specs.MaskCovers.{AreAmong, AreKnown, CoversLine, CoversRows, CoversToo, EndsBefore, EndsFrom, IsSpanCovered, KeepsLastRow, KnowsCovered, covers_in, is_covered, is_in_region, is_in_rows, last_row}
 use Rattle.span_fill.specs.MaskFrames.{IsMaskFrame, depth_of, first_row, marks, marks_at, marks_in, mask_row, row_at, row_count, spare_of}
 use Rattle.span_fill.specs.MaskMarks.{MarksLine, MarksRows, SetsToo}
+use Rattle.span_fill.specs.Spans.{in_span}
 use Rattle.span_fill.specs.StrokeMasks.{height_of}
 use Rattle.span_fill.specs.WideStrokes.{any_below, on_wide_line, row_of}
 use Rattle.span_fill.specs.declared.line.Line.{Line}
@@ -18,6 +19,7 @@ use Rattle.span_fill.proofs.CoverLemmas.{any_from, any_passes, covered, reaches}
 use Rattle.span_fill.proofs.CoveredColumnLemmas.{ends_before, ends_from}
 use Rattle.span_fill.proofs.MaskRowLemmas.{row_of_region}
 use Rattle.span_fill.proofs.SharedRowLemmas.{three_parts}
+use Rattle.span_fill.proofs.SpanLemmas.{is_in}
 
 -- bits that are set too are covered too
 pub covered_too : (frame : MaskFrame) (test : ℕ → ℕ → Bool) (old new : BitRowsState) → SetsToo frame test old new → CoversToo frame (λ x y. any_below (λ d. test x (y + d)) (depth_of frame)) old new
@@ -112,6 +114,13 @@ below_spared frame line bits is ends x y wide high =
     let some = is.nib.y.not_empty in
     let reach = reaches frame.nib.y in
     omega (arith, ints, after, above, high, some, reach))
+
+-- no number is among none
+pub nothing_within : (x : ℕ) → in_span (record { from = 0; to = 0 }) x ≡ true → ⊥
+nothing_within x inside =
+    let column = is_in (record { from = 0; to = 0 }) x inside in
+    let below = column.1 in
+    omega (arith, below)
 
 -- columns in which all pixels are covered stay so
 pub span_still : (frame : MaskFrame) (line : Line) (old new : BitRowsState) (columns : Span) → CoversLine frame line old new → IsSpanCovered frame old columns → IsSpanCovered frame new columns

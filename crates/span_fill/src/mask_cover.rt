@@ -113,7 +113,7 @@ fn is_below(line: Line, frame: MaskFrame) -> bool
     end <= line.from.y && end <= line.to.y
 }
 
-/// The same for a line while nothing is known to be covered.
+/// The same for a line while nothing is known to be covered. A line beside the region marks nothing.
 #[inline(always)]
 fn cover_new_line(bits: &mut BitRows, line: Line, frame: MaskFrame) -> u32
     requires frame { IsMaskFrame frame }
@@ -125,6 +125,9 @@ fn cover_new_line(bits: &mut BitRows, line: Line, frame: MaskFrame) -> u32
     ensures known { KnowsCovered frame bits.new }
     ensures size { HasSize bits.new bits.old.rows bits.old.columns }
 {
+    if is_around_within(line, frame, Span { from: 0, to: 0 }) {
+        return 0;
+    }
     mark_line(bits, line, frame)
 }
 

@@ -1,8 +1,12 @@
--- What is marked of a line covers it, and the last row has no row of lines.
+-- A line beside the region adds nothing. What is marked of another covers it, and the last row has no row of lines.
 use Rattle.std.proofs.Common.{pos, ◌+◌}
 use Rattle.span_fill.specs.WideStrokes.{on_wide_line}
-use Rattle.span_fill.proofs.MaskCoverLemmas.{known_still, line_covered, line_keeps_last}
+use Rattle.span_fill.proofs.MaskCoverLemmas.{known_still, line_covered, line_keeps_last, line_spared, nothing_within}
 use Rattle.span_fill.proofs.mask_cover.cover_new_line.Goals as goal
+
+pub returns-then-is_around_within-clause-line : goal.returns-then-is_around_within-clause-line
+returns-then-is_around_within-clause-line c =
+    line_spared c.args.frame c.args.line c.args.bits.now (record { from = 0; to = 0 }) (λ x y wide high inside. absurd (nothing_within x inside)) (c.is_around_within.ensures c.if-is_around_within.true)
 
 pub returns-clause-line : goal.returns-clause-line
 returns-clause-line c = line_covered c.args.frame c.args.line c.args.bits.now c.mark_line.new.bits c.requires.frame c.mark_line.ensures.line
