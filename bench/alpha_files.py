@@ -1,0 +1,165 @@
+"""Files on which slips in fills, masks, blits and images make the program slow that no other counted file shows: edges in order and in a new order in
+each row, tables for polygons of few rows, and others."""
+
+import random
+
+from instruction_files import Counted
+from slip_files import listed
+from writers import EMF
+
+
+def filled(polygons: list[list[int]], width: int, height: int) -> Counted:
+    """Polygons in one colour, without a pen."""
+    records = EMF.records("null_pen 0; solid_brush 1 0x206040; select 0; select 1")
+    return Counted(EMF.file([*records, *(EMF.step("short_polygon", *places) for places in polygons)], (width, height), 16), width, height)
+
+
+def upright_teeth() -> Counted:
+    """A polygon of 1,200 parallel edges on 1,100 columns: they stay in order, so that they are neither sorted nor counted."""
+    edges, height = 1_200, 200
+    places = [part for nth in range(edges) for part in (nth * 11 // 12 + 20 * (nth % 2), nth % 2 * height)]
+    around = [1_200, height, 1_200, -1, -1, -1]
+    return filled([places + around], 1_100, height)
+
+
+def edges_in_a_new_order() -> Counted:
+    """A polygon of 2,000 edges, of which so many change places in each row that to sort all costs less than to insert these."""
+    width, height = 8192, 16
+    return filled([[part for nth in range(2_000) for part in (nth * 2_654_435_761 % width, nth % 2 * height)]], width, height)
+
+
+def polygons_of_few_rows() -> Counted:
+    """Polygons of 8,256 edges on twelve columns, the first with almost as many rows as a table is worth, the others with one: none of them has enough."""
+    width, height = 12, 56
+    high, low = ([part for nth in range(8_256) for part in (nth * 2_654_435_761 % width, nth % 2 * rows)] for rows in (height, 1))
+    return filled([high, *[low] * 6], width, height)
+
+
+def over_an_image() -> Counted:
+    """A pixel over an image of 512 by 512 with long comments and numbers before its raster."""
+    side = 512
+    comment = b"#" + b"plain words " * 4_000 + b"\n"
+    head = b"P6 " + comment * 2 + b"0" * 20_000 + b"512 " + comment + b"512 255\n"
+    image = head + random.Random(201).randbytes(3 * side * side)
+    return Counted(EMF.file([EMF.step("pixel", 1, 1)], side, 16), side, side, command="over", image=image)
+
+
+def nothing_on_a_band() -> Counted:
+    """A file without records on a surface of one band: what is counted is the image."""
+    return Counted(EMF.file([], 1_024, 16), 1_024, 1_024)
+
+
+def nothing_on_a_narrow_band() -> Counted:
+    """The same on a surface of few columns: each row is a part of its own."""
+    return Counted(EMF.file([], 2, 16), 2, 8_192)
+
+
+def diagonal_lines_in_bands() -> Counted:
+    """A stroke of 20 lines a little flatter than a diagonal, which begin left of a surface of four bands and end right of it: in each band only its
+    rows are gone through."""
+    width, height = 1_024, 3_840
+    lines = [[150 * nth - 3_000, 0, 150 * nth + 1_000, height] for nth in range(20)]
+    records = EMF.records("styled_pen 0 0 5 0x8040; select 0") + [EMF.step("short_polylines", *listed(lines))]
+    return Counted(EMF.file(records, (width, height), 16), width, height)
+
+
+def short_steep_lines() -> Counted:
+    """A stroke of 2,400 short steep lines, apart from one another, by a nib of 40 by 40: in each row 40 columns are marked."""
+    chance, side = random.Random(203), 512
+    places = [(40 + chance.randrange(side - 100), 40 + chance.randrange(side - 140)) for _ in range(2_400)]
+    records = EMF.records("styled_pen 0 0 40 0x8040; select 0")
+    records.append(EMF.step("short_polylines", *listed([[x, y, x + 20, y + 60] for x, y in places])))
+    return Counted(EMF.file(records, side, 16), side, side)
+
+
+def strokes_behind_cuts() -> Counted:
+    """Strokes of two short lines at both ends of a high surface, behind sixteen cuts of two rows each: each cut is held against its own rows."""
+    width, height = 64, 8_192
+    records = EMF.records("styled_pen 0 0 5 0x8040; select 0")
+    records += [EMF.step("cut", 8, 500 * nth, 20, 500 * nth + 2) for nth in range(16)]
+    records += [EMF.step("short_polylines", *listed([[10, 3, 30, 9], [10, height - 9, 30, height - 3]]))] * 10
+    return Counted(EMF.file(records, (width, height), 16), width, height)
+
+
+def rectangles_of_sixty_columns() -> Counted:
+    """Rectangles of 60 columns in one colour: each of their rows is filled by a few copies."""
+    chance, side = random.Random(204), 1_024
+    records = EMF.records("null_pen 0; solid_brush 1 0x206040; select 0; select 1")
+    for _ in range(300):
+        left, top = chance.randrange(side - 60), chance.randrange(side - 200)
+        records.append(EMF.step("rectangle", left, top, left + 60, top + 200))
+    return Counted(EMF.file(records, side, 16), side, side)
+
+
+def transparent_hatches() -> Counted:
+    """Wide rectangles of transparent hatches: only the pixels of their lines are gone through, and none is read."""
+    side = 1_024
+    records = EMF.records("null_pen 0; select 0; back_mode 1")
+    for index in range(6):
+        records += EMF.records(f"hatched_brush {index + 1} {index} 0x804020; select {index + 1}")
+        records.append(EMF.step("rectangle", 0, 0, side, 400))
+    return Counted(EMF.file(records, side, 16), side, side)
+
+
+def over_an_image() -> Counted:
+    """A pixel over an image of 512 by 512 with long comments and numbers before its raster."""
+    side = 512
+    comment = b"#" + b"plain words " * 4_000 + b"\n"
+    head = b"P6 " + comment * 2 + b"0" * 20_000 + b"512 " + comment + b"512 255\n"
+    image = head + random.Random(201).randbytes(3 * side * side)
+    return Counted(EMF.file([EMF.step("pixel", 1, 1)], side, 16), side, side, command="over", image=image)
+
+
+def nothing_on_a_band() -> Counted:
+    """A file without records on a surface of one band: what is counted is the image."""
+    return Counted(EMF.file([], 1_024, 16), 1_024, 1_024)
+
+
+def nothing_on_a_narrow_band() -> Counted:
+    """The same on a surface of few columns: each row is a part of its own."""
+    return Counted(EMF.file([], 2, 16), 2, 8_192)
+
+
+def diagonal_lines_in_bands() -> Counted:
+    """A stroke of 20 lines a little flatter than a diagonal, which begin left of a surface of four bands and end right of it: in each band only its
+    rows are gone through."""
+    width, height = 1_024, 3_840
+    lines = [[150 * nth - 3_000, 0, 150 * nth + 1_000, height] for nth in range(20)]
+    records = EMF.records("styled_pen 0 0 5 0x8040; select 0") + [EMF.step("short_polylines", *listed(lines))]
+    return Counted(EMF.file(records, (width, height), 16), width, height)
+
+
+def short_steep_lines() -> Counted:
+    """A stroke of 1,200 short steep lines, apart from one another, by a nib of 40 by 40: in each row 40 columns are marked."""
+    chance, side = random.Random(203), 1_024
+    places = [(40 + chance.randrange(side - 100), 40 + chance.randrange(side - 140)) for _ in range(1_200)]
+    records = EMF.records("styled_pen 0 0 40 0x8040; select 0")
+    records.append(EMF.step("short_polylines", *listed([[x, y, x + 20, y + 60] for x, y in places])))
+    return Counted(EMF.file(records, side, 16), side, side)
+
+
+def strokes_behind_many_cuts() -> Counted:
+    """A high stroke of a wide pen behind sixteen cuts of two rows each: each cut is held against its own rows."""
+    width, height = 64, 8_192
+    records = EMF.records("styled_pen 0 0 5 0x8040; select 0")
+    records += [EMF.step("cut", 8, 500 * nth, 20, 500 * nth + 2) for nth in range(16)]
+    records.append(EMF.step("short_polyline", 10, 0, 30, height - 1, 12, 0))
+    return Counted(EMF.file(records, (width, height), 16), width, height)
+
+
+FILES = {
+    "1,200 upright teeth, 1,100 by 200": upright_teeth,
+    "2,000 edges in a new order, 8,192 by 16": edges_in_a_new_order,
+    "7 polygons of 8,256 edges, 12 by 56": polygons_of_few_rows,
+    "20 diagonal lines in bands, nib 5 by 5": diagonal_lines_in_bands,
+    "2,400 short steep lines, nib 40 by 40": short_steep_lines,
+    "10 strokes behind 16 cuts, 64 by 8,192": strokes_behind_cuts,
+    "300 rectangles of 60 columns, 1,024 by 1,024": rectangles_of_sixty_columns,
+    "6 transparent hatches, 1,024 by 1,024": transparent_hatches,
+    "a pixel over an image, 512 by 512": over_an_image,
+    "nothing, 1,024 by 1,024": nothing_on_a_band,
+    "nothing, 2 by 8,192": nothing_on_a_narrow_band,
+}
+
+# What is to show in these is a part of their work.
+CLOSE = dict.fromkeys(["1,200 upright teeth, 1,100 by 200", "2,400 short steep lines, nib 40 by 40", "nothing, 1,024 by 1,024"], 1.1)
