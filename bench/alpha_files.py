@@ -3,9 +3,13 @@ each row, tables for polygons of few rows, and others."""
 
 import random
 
-from instruction_files import Counted
+from instruction_files import Counted, noise
 from slip_files import listed
-from writers import EMF
+from writers import EMF, PATCOPY, PATINVERT, SRCCOPY, WMF
+
+
+# A ternary raster operation ([MS-WMF] 2.1.1.31) that needs neither a source nor a pattern.
+DSTINVERT = 0x00550009
 
 
 def filled(polygons: list[list[int]], width: int, height: int) -> Counted:
@@ -81,6 +85,34 @@ def strokes_behind_cuts() -> Counted:
     return Counted(EMF.file(records, (width, height), 16), width, height)
 
 
+def strokes_behind_a_wide_cut() -> Counted:
+    """Strokes of flat lines of a wide pen behind a cut that leaves little of them: many columns are taken away at a time."""
+    width, height = 8_192, 64
+    records = EMF.records(f"styled_pen 0 0 9 0x8040; select 0; cut 20 0 {width - 20} {height}")
+    lines = [[0, row, width - 1, row + 1] for row in (5, 30, 55)] * 12
+    records += [EMF.step("short_polylines", *listed(lines))] * 10
+    return Counted(EMF.file(records, (width, height), 16), width, height)
+
+
+def lines_between_covers() -> Counted:
+    """A stroke by a nib of 3 by 3: a line at each side, five hundred columns between them that flat lines cover from top to bottom, and 4,000 lines
+    over these."""
+    chance, width, height = random.Random(205), 800, 62
+    lines = [[side, 0, side, height + 8] for side in (2, width - 4)] + [[100, row, 600, row] for row in range(height)]
+    lines += [[110 + chance.randrange(400), 0, 110 + chance.randrange(400), height - 1] for _ in range(4_000)]
+    records = EMF.records("styled_pen 0 0 3 0x8040; select 0") + [EMF.step("short_polylines", *listed(lines))]
+    return Counted(EMF.file(records, (width, height), 16), width, height)
+
+
+def lines_beside_the_cover() -> Counted:
+    """A stroke in a box that is kept, of which upright lines cover a half: 12,000 lines left of the box cost little."""
+    chance, width, height = random.Random(206), 512, 256
+    lines = [[240 + 2 * nth, -20, 240 + 2 * nth, height + 20] for nth in range(50)]
+    lines += [[chance.randrange(90), 0, chance.randrange(90), height] for _ in range(12_000)]
+    records = EMF.records(f"styled_pen 0 0 5 0x8040; select 0; keep 200 0 400 {height}") + [EMF.step("short_polylines", *listed(lines))]
+    return Counted(EMF.file(records, (width, height), 16), width, height)
+
+
 def rectangles_of_sixty_columns() -> Counted:
     """Rectangles of 60 columns in one colour: each of their rows is filled by a few copies."""
     chance, side = random.Random(204), 1_024
@@ -101,50 +133,19 @@ def transparent_hatches() -> Counted:
     return Counted(EMF.file(records, side, 16), side, side)
 
 
-def over_an_image() -> Counted:
-    """A pixel over an image of 512 by 512 with long comments and numbers before its raster."""
-    side = 512
-    comment = b"#" + b"plain words " * 4_000 + b"\n"
-    head = b"P6 " + comment * 2 + b"0" * 20_000 + b"512 " + comment + b"512 255\n"
-    image = head + random.Random(201).randbytes(3 * side * side)
-    return Counted(EMF.file([EMF.step("pixel", 1, 1)], side, 16), side, side, command="over", image=image)
+def bitmaps_that_are_not_read() -> Counted:
+    """Wide blits of a bitmap by operations that don't depend on it: it isn't read."""
+    side, bitmap = 1_024, str(noise(64, 24))
+    records = [WMF.step("stretch_dib", operation, 0, 0, side, 300, 0, 0, 64, 64, bitmap) for operation in (PATCOPY, DSTINVERT, PATINVERT)]
+    return Counted(WMF.file(records, side, 0), side, side)
 
 
-def nothing_on_a_band() -> Counted:
-    """A file without records on a surface of one band: what is counted is the image."""
-    return Counted(EMF.file([], 1_024, 16), 1_024, 1_024)
-
-
-def nothing_on_a_narrow_band() -> Counted:
-    """The same on a surface of few columns: each row is a part of its own."""
-    return Counted(EMF.file([], 2, 16), 2, 8_192)
-
-
-def diagonal_lines_in_bands() -> Counted:
-    """A stroke of 20 lines a little flatter than a diagonal, which begin left of a surface of four bands and end right of it: in each band only its
-    rows are gone through."""
-    width, height = 1_024, 3_840
-    lines = [[150 * nth - 3_000, 0, 150 * nth + 1_000, height] for nth in range(20)]
-    records = EMF.records("styled_pen 0 0 5 0x8040; select 0") + [EMF.step("short_polylines", *listed(lines))]
-    return Counted(EMF.file(records, (width, height), 16), width, height)
-
-
-def short_steep_lines() -> Counted:
-    """A stroke of 1,200 short steep lines, apart from one another, by a nib of 40 by 40: in each row 40 columns are marked."""
-    chance, side = random.Random(203), 1_024
-    places = [(40 + chance.randrange(side - 100), 40 + chance.randrange(side - 140)) for _ in range(1_200)]
-    records = EMF.records("styled_pen 0 0 40 0x8040; select 0")
-    records.append(EMF.step("short_polylines", *listed([[x, y, x + 20, y + 60] for x, y in places])))
-    return Counted(EMF.file(records, side, 16), side, side)
-
-
-def strokes_behind_many_cuts() -> Counted:
-    """A high stroke of a wide pen behind sixteen cuts of two rows each: each cut is held against its own rows."""
-    width, height = 64, 8_192
-    records = EMF.records("styled_pen 0 0 5 0x8040; select 0")
-    records += [EMF.step("cut", 8, 500 * nth, 20, 500 * nth + 2) for nth in range(16)]
-    records.append(EMF.step("short_polyline", 10, 0, 30, height - 1, 12, 0))
-    return Counted(EMF.file(records, (width, height), 16), width, height)
+def copies_beside_a_tile() -> Counted:
+    """Wide copies of a bitmap while a tiled brush is selected, on which they don't depend: its colours aren't gathered."""
+    side = 1_024
+    records = [WMF.step("tiled_brush", 0, str(noise(24, 24))), WMF.step("select", 0)]
+    records += [WMF.step("stretch_dib", SRCCOPY, 0, 0, side, 400, 0, 0, 64, 2, str(noise(64, 24)))] * 4
+    return Counted(WMF.file(records, side, 0), side, side)
 
 
 FILES = {
@@ -154,8 +155,13 @@ FILES = {
     "20 diagonal lines in bands, nib 5 by 5": diagonal_lines_in_bands,
     "2,400 short steep lines, nib 40 by 40": short_steep_lines,
     "10 strokes behind 16 cuts, 64 by 8,192": strokes_behind_cuts,
+    "10 strokes behind a wide cut, 8,192 by 64": strokes_behind_a_wide_cut,
+    "4,000 lines between covers, nib 3 by 3": lines_between_covers,
+    "12,000 lines beside the cover, nib 5 by 5": lines_beside_the_cover,
     "300 rectangles of 60 columns, 1,024 by 1,024": rectangles_of_sixty_columns,
     "6 transparent hatches, 1,024 by 1,024": transparent_hatches,
+    "bitmaps that are not read, 1,024 by 1,024": bitmaps_that_are_not_read,
+    "4 copies beside a tile, 1,024 by 1,024": copies_beside_a_tile,
     "a pixel over an image, 512 by 512": over_an_image,
     "nothing, 1,024 by 1,024": nothing_on_a_band,
     "nothing, 2 by 8,192": nothing_on_a_narrow_band,
