@@ -5,8 +5,7 @@ import random
 
 from instruction_files import Counted, noise
 from slip_files import listed
-from writers import EMF, PATCOPY, PATINVERT, SRCCOPY, WMF
-
+from writers import EMF, PATCOPY, PATINVERT, SRCCOPY, WMF, Bitmap, header
 
 # A ternary raster operation ([MS-WMF] 2.1.1.31) that needs neither a source nor a pattern.
 DSTINVERT = 0x00550009
@@ -33,10 +32,45 @@ def edges_in_a_new_order() -> Counted:
 
 
 def polygons_of_few_rows() -> Counted:
-    """Polygons of 8,256 edges on twelve columns, the first with almost as many rows as a table is worth, the others with one: none of them has enough."""
+    """Polygons of 8,256 edges on twelve columns, the first with almost as many rows as a table is worth, the others with one: each of them has too few."""
     width, height = 12, 56
     high, low = ([part for nth in range(8_256) for part in (nth * 2_654_435_761 % width, nth % 2 * rows)] for rows in (height, 1))
     return filled([high, *[low] * 6], width, height)
+
+
+def wide_bitmap(width: int, height: int, seed: int) -> str:
+    """A wide bitmap of noise, of 8 bits a pixel."""
+    chance = random.Random(seed)
+    table = b"".join(chance.randbytes(3) + b"\0" for _ in range(256))
+    return str(Bitmap(header(width, height, 8) + table, chance.randbytes(width * height)))
+
+
+def corners_of_a_wide_tile() -> Counted:
+    """Small rectangles of a tile of 4,000 columns: of each of its rows only a few colours are gathered."""
+    chance, side = random.Random(210), 512
+    records = [WMF.step("null_pen", 0), WMF.step("tiled_brush", 1, wide_bitmap(4_000, 8, 211)), *WMF.records("select 0; select 1")]
+    for _ in range(500):
+        left, top = chance.randrange(side - 8), chance.randrange(side - 8)
+        records.append(WMF.step("rectangle", left, top, left + 8, top + 8))
+    return Counted(WMF.file(records, side, 0), side, side)
+
+
+def parts_of_a_wide_bitmap() -> Counted:
+    """Blits of eight columns of a bitmap of 4,000 columns: no others are read."""
+    side, bitmap = 256, wide_bitmap(4_000, 16, 212)
+    records = [WMF.step("stretch_dib", SRCCOPY, 8 * nth, 0, 8, 200, 100 * nth, 0, 8, 16, bitmap) for nth in range(20)]
+    return Counted(WMF.file(records, side, 0), side, side)
+
+
+def far_boxes() -> Counted:
+    """Blits that are stretched to wide boxes of which a small surface shows the end, straight and mirrored: no column before it is stepped over."""
+    side, bitmap = 64, str(noise(16, 24))
+    records = []
+    for width in (30_000, -30_000):
+        left = side - width if width > 0 else side
+        box = (left - 2_000, 0, width, 60) if width > 0 else (left + 2_000, 0, width, 60)
+        records += [WMF.step("stretch_dib", SRCCOPY, *box, 0, 0, 16, 16, bitmap)] * 10
+    return Counted(WMF.file(records, side, 0), side, side)
 
 
 def over_an_image() -> Counted:
@@ -58,6 +92,21 @@ def nothing_on_a_narrow_band() -> Counted:
     return Counted(EMF.file([], 2, 16), 2, 8_192)
 
 
+def edges_on_few_columns() -> Counted:
+    """Polygons of 500 edges that change places in each row, on 16 columns: they are counted rather than sorted."""
+    width, height = 16, 16
+    return filled([[part for nth in range(500) for part in (nth * 2_654_435_761 % width, nth % 2 * height)]] * 20, width, height)
+
+
+def short_lines_behind_a_cut() -> Counted:
+    """A thin stroke behind a cut, which goes by rows of spans: of 8,000 short lines one half ends in one row, and the other begins in rows from the
+    last one upwards."""
+    width, height = 8_192, 64
+    lines = [[2 * nth, 28, 2 * nth, 30] for nth in range(4_000)] + [[2 * nth, 60 - nth // 80, 2 * nth, 62 - nth // 80] for nth in range(4_000)]
+    records = EMF.records("cut 5 5 6 6") + [EMF.step("short_polylines", *listed(lines))]
+    return Counted(EMF.file(records, (width, height), 16), width, height)
+
+
 def diagonal_lines_in_bands() -> Counted:
     """A stroke of 20 lines a little flatter than a diagonal, which begin left of a surface of four bands and end right of it: in each band only its
     rows are gone through."""
@@ -67,13 +116,23 @@ def diagonal_lines_in_bands() -> Counted:
     return Counted(EMF.file(records, (width, height), 16), width, height)
 
 
-def short_steep_lines() -> Counted:
-    """A stroke of 2,400 short steep lines, apart from one another, by a nib of 40 by 40: in each row 40 columns are marked."""
-    chance, side = random.Random(203), 512
+def short_steep_lines(nib: int, seed: int) -> Counted:
+    """A stroke of 2,400 short steep lines, apart from one another, by a square nib."""
+    chance, side = random.Random(seed), 512
     places = [(40 + chance.randrange(side - 100), 40 + chance.randrange(side - 140)) for _ in range(2_400)]
-    records = EMF.records("styled_pen 0 0 40 0x8040; select 0")
+    records = EMF.records(f"styled_pen 0 0 {nib} 0x8040; select 0")
     records.append(EMF.step("short_polylines", *listed([[x, y, x + 20, y + 60] for x, y in places])))
     return Counted(EMF.file(records, side, 16), side, side)
+
+
+def lines_of_forty_columns() -> Counted:
+    """By a nib of 40 by 40: in each row 40 columns are marked at once."""
+    return short_steep_lines(40, 203)
+
+
+def lines_of_three_columns() -> Counted:
+    """By a nib of 3 by 3."""
+    return short_steep_lines(3, 207)
 
 
 def strokes_behind_cuts() -> Counted:
@@ -113,14 +172,28 @@ def lines_beside_the_cover() -> Counted:
     return Counted(EMF.file(records, (width, height), 16), width, height)
 
 
-def rectangles_of_sixty_columns() -> Counted:
-    """Rectangles of 60 columns in one colour: each of their rows is filled by a few copies."""
-    chance, side = random.Random(204), 1_024
-    records = EMF.records("null_pen 0; solid_brush 1 0x206040; select 0; select 1")
-    for _ in range(300):
+def sixty_columns(records: list[bytes], seed: int) -> Counted:
+    """Rectangles of 60 columns behind these records: each of their rows is filled by a few copies."""
+    chance, side = random.Random(seed), 1_024
+    for _ in range(150):
         left, top = chance.randrange(side - 60), chance.randrange(side - 200)
-        records.append(EMF.step("rectangle", left, top, left + 60, top + 200))
-    return Counted(EMF.file(records, side, 16), side, side)
+        records.append(WMF.step("rectangle", left, top, left + 60, top + 200))
+    return Counted(WMF.file(records, side, 0), side, side)
+
+
+def sixty_columns_in_one_colour() -> Counted:
+    """Those in one colour."""
+    return sixty_columns(WMF.records("null_pen 0; solid_brush 1 0x206040; select 0; select 1"), 204)
+
+
+def sixty_columns_hatched() -> Counted:
+    """Those of an opaque hatch."""
+    return sixty_columns(WMF.records("null_pen 0; hatched_brush 1 4 0x804020; select 0; select 1"), 208)
+
+
+def sixty_columns_inverted() -> Counted:
+    """Those that are mixed with what is there."""
+    return sixty_columns(WMF.records("null_pen 0; solid_brush 1 0x206040; select 0; select 1; raster 7"), 209)
 
 
 def transparent_hatches() -> Counted:
@@ -152,20 +225,37 @@ FILES = {
     "1,200 upright teeth, 1,100 by 200": upright_teeth,
     "2,000 edges in a new order, 8,192 by 16": edges_in_a_new_order,
     "7 polygons of 8,256 edges, 12 by 56": polygons_of_few_rows,
+    "20 polygons of 500 edges, 16 by 16": edges_on_few_columns,
+    "8,000 short lines behind a cut, 8,192 by 64": short_lines_behind_a_cut,
     "20 diagonal lines in bands, nib 5 by 5": diagonal_lines_in_bands,
-    "2,400 short steep lines, nib 40 by 40": short_steep_lines,
+    "2,400 short steep lines, nib 40 by 40": lines_of_forty_columns,
+    "2,400 short steep lines, nib 3 by 3": lines_of_three_columns,
     "10 strokes behind 16 cuts, 64 by 8,192": strokes_behind_cuts,
     "10 strokes behind a wide cut, 8,192 by 64": strokes_behind_a_wide_cut,
     "4,000 lines between covers, nib 3 by 3": lines_between_covers,
     "12,000 lines beside the cover, nib 5 by 5": lines_beside_the_cover,
-    "300 rectangles of 60 columns, 1,024 by 1,024": rectangles_of_sixty_columns,
+    "150 rectangles of 60 columns in one colour": sixty_columns_in_one_colour,
+    "150 rectangles of 60 columns, hatched": sixty_columns_hatched,
+    "150 rectangles of 60 columns, inverted": sixty_columns_inverted,
     "6 transparent hatches, 1,024 by 1,024": transparent_hatches,
     "bitmaps that are not read, 1,024 by 1,024": bitmaps_that_are_not_read,
     "4 copies beside a tile, 1,024 by 1,024": copies_beside_a_tile,
+    "500 corners of a wide tile, 512 by 512": corners_of_a_wide_tile,
+    "20 parts of a wide bitmap, 256 by 256": parts_of_a_wide_bitmap,
+    "20 blits to far boxes, 64 by 64": far_boxes,
     "a pixel over an image, 512 by 512": over_an_image,
     "nothing, 1,024 by 1,024": nothing_on_a_band,
     "nothing, 2 by 8,192": nothing_on_a_narrow_band,
 }
 
 # What is to show in these is a part of their work.
-CLOSE = dict.fromkeys(["1,200 upright teeth, 1,100 by 200", "2,400 short steep lines, nib 40 by 40", "nothing, 1,024 by 1,024"], 1.1)
+CLOSE = dict.fromkeys(
+    [
+        "1,200 upright teeth, 1,100 by 200",
+        "2,400 short steep lines, nib 40 by 40",
+        "2,400 short steep lines, nib 3 by 3",
+        "nothing, 1,024 by 1,024",
+        "nothing, 2 by 8,192",
+    ],
+    1.1,
+)
