@@ -5,7 +5,7 @@ import random
 
 from instruction_files import Counted, noise
 from slip_files import listed
-from writers import EMF, PATCOPY, PATINVERT, SRCCOPY, WMF, Bitmap, header
+from writers import EMF, MASKED, PATCOPY, PATINVERT, SRCCOPY, WMF, Bitmap, header
 
 # A ternary raster operation ([MS-WMF] 2.1.1.31) that needs neither a source nor a pattern.
 DSTINVERT = 0x00550009
@@ -35,7 +35,17 @@ def polygons_of_few_rows() -> Counted:
     """Polygons of 8,256 edges on twelve columns, the first with almost as many rows as a table is worth, the others with one: each of them has too few."""
     width, height = 12, 56
     high, low = ([part for nth in range(8_256) for part in (nth * 2_654_435_761 % width, nth % 2 * rows)] for rows in (height, 1))
-    return filled([high, *[low] * 6], width, height)
+    return filled([high, *[low] * 5], width, height)
+
+
+def small_mixed_blits() -> Counted:
+    """Blits of 48 columns that mix a hatch with a bitmap, on a wide surface: nothing left of them is gathered, and most is mixed by eights."""
+    chance, width, height = random.Random(213), 8192, 64
+    records = WMF.records("hatched_brush 0 4 0x804020; select 0")
+    for _ in range(200):
+        left, top = chance.randrange(width // 2, width - 48), chance.randrange(height - 8)
+        records.append(WMF.step("stretch_dib", MASKED, left, top, 48, 8, 0, 0, 16, 8, str(noise(16, 8))))
+    return Counted(WMF.file(records, (width, height), 0), width, height)
 
 
 def wide_bitmap(width: int, height: int, seed: int) -> str:
@@ -65,11 +75,8 @@ def parts_of_a_wide_bitmap() -> Counted:
 def far_boxes() -> Counted:
     """Blits that are stretched to wide boxes of which a small surface shows the end, straight and mirrored: no column before it is stepped over."""
     side, bitmap = 64, str(noise(16, 24))
-    records = []
-    for width in (30_000, -30_000):
-        left = side - width if width > 0 else side
-        box = (left - 2_000, 0, width, 60) if width > 0 else (left + 2_000, 0, width, 60)
-        records += [WMF.step("stretch_dib", SRCCOPY, *box, 0, 0, 16, 16, bitmap)] * 10
+    boxes = (side - 30_000, 0, 30_000, 60), (30_000, 0, -30_000, 60)
+    records = [WMF.step("stretch_dib", SRCCOPY, *box, 0, 0, 16, 16, bitmap) for box in boxes for _ in range(10)]
     return Counted(WMF.file(records, side, 0), side, side)
 
 
@@ -108,10 +115,10 @@ def short_lines_behind_a_cut() -> Counted:
 
 
 def diagonal_lines_in_bands() -> Counted:
-    """A stroke of 20 lines a little flatter than a diagonal, which begin left of a surface of four bands and end right of it: in each band only its
+    """A stroke of 20 lines a little flatter than a diagonal, which begin far above a surface of four bands and end far below it: in each band only its
     rows are gone through."""
     width, height = 1_024, 3_840
-    lines = [[150 * nth - 3_000, 0, 150 * nth + 1_000, height] for nth in range(20)]
+    lines = [[150 * nth - 8_000, -4_000, 150 * nth + 8_500, 12_000] for nth in range(20)]
     records = EMF.records("styled_pen 0 0 5 0x8040; select 0") + [EMF.step("short_polylines", *listed(lines))]
     return Counted(EMF.file(records, (width, height), 16), width, height)
 
@@ -136,11 +143,20 @@ def lines_of_three_columns() -> Counted:
 
 
 def strokes_behind_cuts() -> Counted:
-    """Strokes of two short lines at both ends of a high surface, behind sixteen cuts of two rows each: each cut is held against its own rows."""
+    """Strokes of two short lines at both ends of a high surface, behind sixteen cuts of two rows each: each cut is held against its own rows. Moves make
+    so much work that the surface is one band."""
     width, height = 64, 8_192
-    records = EMF.records("styled_pen 0 0 5 0x8040; select 0")
+    records = EMF.records("styled_pen 0 0 5 0x8040; select 0") + EMF.records("move 1 1") * 5_000
     records += [EMF.step("cut", 8, 500 * nth, 20, 500 * nth + 2) for nth in range(16)]
     records += [EMF.step("short_polylines", *listed([[10, 3, 30, 9], [10, height - 9, 30, height - 3]]))] * 10
+    return Counted(EMF.file(records, (width, height), 16), width, height)
+
+
+def lines_that_leave_a_high_nib() -> Counted:
+    """A stroke by a nib that is higher than the surface: three lines cover most columns, and 200 lines leave these far below the surface."""
+    width, height = 2_000, 500
+    lines = [[column, -600, column, 1_100] for column in (300, 800, 1_300)] + [[600 + nth, 0, 2_500, 20_000] for nth in range(200)]
+    records = EMF.records("styled_pen 0 0 512 0x8040; select 0") + [EMF.step("short_polylines", *listed(lines))]
     return Counted(EMF.file(records, (width, height), 16), width, height)
 
 
@@ -156,7 +172,7 @@ def strokes_behind_a_wide_cut() -> Counted:
 def lines_between_covers() -> Counted:
     """A stroke by a nib of 3 by 3: a line at each side, five hundred columns between them that flat lines cover from top to bottom, and 4,000 lines
     over these."""
-    chance, width, height = random.Random(205), 800, 62
+    chance, width, height = random.Random(205), 1_400, 62
     lines = [[side, 0, side, height + 8] for side in (2, width - 4)] + [[100, row, 600, row] for row in range(height)]
     lines += [[110 + chance.randrange(400), 0, 110 + chance.randrange(400), height - 1] for _ in range(4_000)]
     records = EMF.records("styled_pen 0 0 3 0x8040; select 0") + [EMF.step("short_polylines", *listed(lines))]
@@ -191,9 +207,9 @@ def sixty_columns_hatched() -> Counted:
     return sixty_columns(WMF.records("null_pen 0; hatched_brush 1 4 0x804020; select 0; select 1"), 208)
 
 
-def sixty_columns_inverted() -> Counted:
-    """Those that are mixed with what is there."""
-    return sixty_columns(WMF.records("null_pen 0; solid_brush 1 0x206040; select 0; select 1; raster 7"), 209)
+def sixty_columns_transparent() -> Counted:
+    """Those of a transparent hatch."""
+    return sixty_columns(WMF.records("null_pen 0; hatched_brush 1 4 0x804020; select 0; select 1; back_mode 1"), 209)
 
 
 def transparent_hatches() -> Counted:
@@ -224,22 +240,24 @@ def copies_beside_a_tile() -> Counted:
 FILES = {
     "1,200 upright teeth, 1,100 by 200": upright_teeth,
     "2,000 edges in a new order, 8,192 by 16": edges_in_a_new_order,
-    "7 polygons of 8,256 edges, 12 by 56": polygons_of_few_rows,
+    "6 polygons of 8,256 edges, 12 by 56": polygons_of_few_rows,
     "20 polygons of 500 edges, 16 by 16": edges_on_few_columns,
     "8,000 short lines behind a cut, 8,192 by 64": short_lines_behind_a_cut,
     "20 diagonal lines in bands, nib 5 by 5": diagonal_lines_in_bands,
     "2,400 short steep lines, nib 40 by 40": lines_of_forty_columns,
     "2,400 short steep lines, nib 3 by 3": lines_of_three_columns,
     "10 strokes behind 16 cuts, 64 by 8,192": strokes_behind_cuts,
+    "200 lines that leave the cover, nib 512 by 512": lines_that_leave_a_high_nib,
     "10 strokes behind a wide cut, 8,192 by 64": strokes_behind_a_wide_cut,
     "4,000 lines between covers, nib 3 by 3": lines_between_covers,
     "12,000 lines beside the cover, nib 5 by 5": lines_beside_the_cover,
     "150 rectangles of 60 columns in one colour": sixty_columns_in_one_colour,
     "150 rectangles of 60 columns, hatched": sixty_columns_hatched,
-    "150 rectangles of 60 columns, inverted": sixty_columns_inverted,
+    "150 rectangles of 60 columns, transparent": sixty_columns_transparent,
     "6 transparent hatches, 1,024 by 1,024": transparent_hatches,
     "bitmaps that are not read, 1,024 by 1,024": bitmaps_that_are_not_read,
     "4 copies beside a tile, 1,024 by 1,024": copies_beside_a_tile,
+    "200 small mixed blits, 8,192 by 64": small_mixed_blits,
     "500 corners of a wide tile, 512 by 512": corners_of_a_wide_tile,
     "20 parts of a wide bitmap, 256 by 256": parts_of_a_wide_bitmap,
     "20 blits to far boxes, 64 by 64": far_boxes,
