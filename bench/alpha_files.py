@@ -79,6 +79,17 @@ def short_lines_behind_a_cut() -> Counted:
     return Counted(EMF.file(records, (width, height), 16), width, height)
 
 
+def far_lone_lines() -> Counted:
+    """Lone lines in each direction that begin and end far beside a small surface: only their steps on it are taken."""
+    chance, side, far = random.Random(215), 256, 15_000
+    records = []
+    for nth in range(200):
+        near, other = chance.randrange(side), chance.randrange(side)
+        ends = ((-far, near, far, other), (far, near, -far, other), (near, -far, other, far), (near, far, other, -far))[nth % 4]
+        records.append(EMF.step("polyline", *ends))
+    return Counted(EMF.file(records, side, 16), side, side)
+
+
 def diagonal_lines_in_bands() -> Counted:
     """A stroke of 20 lines a little flatter than a diagonal, which begin far above a surface of four bands and end far below it: in each band only
     its rows are gone through."""
@@ -163,6 +174,7 @@ FILES = {
     "20 polygons of 500 edges, 16 by 16": edges_on_few_columns,
     "20 polygons of 500 edges, 16 by 16, by windings": edges_on_few_columns_by_windings,
     "8,000 short lines behind a cut, 8,192 by 64": short_lines_behind_a_cut,
+    "200 lone lines from far to far, 256 by 256": far_lone_lines,
     "20 diagonal lines in bands, nib 5 by 5": diagonal_lines_in_bands,
     "2,400 short steep lines, nib 40 by 40": lines_of_forty_columns,
     "2,400 short steep lines, nib 3 by 3": lines_of_three_columns,
@@ -179,6 +191,7 @@ CLOSE = (
         [
             "1,200 upright teeth, 1,100 by 200",
             "1,200 upright teeth, 1,100 by 200, by windings",
+            "60 high polygons of two edges, by windings",
             "2,400 short steep lines, nib 40 by 40",
             "2,400 short steep lines, nib 3 by 3",
         ],

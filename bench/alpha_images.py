@@ -142,4 +142,4 @@ FILES = {
 }
 
 # What is to show in these is a part of their work.
-CLOSE = dict.fromkeys(["nothing, 1,024 by 1,024", "nothing, 2 by 8,192"], 1.1)
+CLOSE = dict.fromkeys(["nothing, 1,024 by 1,024", "nothing, 2 by 8,192", "nothing, 48 by 8,192"], 1.1)
