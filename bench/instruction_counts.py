@@ -9,6 +9,7 @@ import subprocess
 import tempfile
 from concurrent.futures import ThreadPoolExecutor
 
+import alpha_files
 import instruction_files
 import row_files
 import slip_files
@@ -17,8 +18,8 @@ from print_files import PARTS, named_print, under_print
 from writers import PROGRAM, ROOT
 
 # The files whose instructions are counted under both profiles, and those of them with a limit of their own.
-BOTH = instruction_files.FILES | row_files.FILES | stroke_files.FILES | slip_files.FILES
-CLOSE_BOTH = instruction_files.CLOSE | row_files.CLOSE
+BOTH = instruction_files.FILES | row_files.FILES | stroke_files.FILES | slip_files.FILES | alpha_files.FILES
+CLOSE_BOTH = instruction_files.CLOSE | row_files.CLOSE | alpha_files.CLOSE
 
 # Each file under the core profile and under the print profile, and those whose work is in parts of a unit.
 FILES = BOTH | {named_print(name): under_print(made) for name, made in BOTH.items()} | PARTS
@@ -45,6 +46,8 @@ def count(program, name):
     counted = FILES[name]()
     with tempfile.TemporaryDirectory() as folder:
         pathlib.Path(folder, "file").write_bytes(counted.given)
+        if counted.image:
+            pathlib.Path(folder, "image").write_bytes(counted.image)
         if counted.preparing():
             subprocess.run([os.path.abspath(program), *counted.preparing()], cwd=folder, env={}, check=True)
         words = [valgrind, "--tool=callgrind", "--callgrind-out-file=/dev/null", os.path.abspath(program), *counted.words()]

@@ -8,7 +8,8 @@ from writers import BETWEEN, EMF, MASKED, PATCOPY, PATINVERT, SRCCOPY, WMF, Bitm
 
 
 class Counted(NamedTuple):
-    """A file, the surface that it is shown on, or another command that it is given to, the options for its rules, and the status that is wanted."""
+    """A file, the surface that it is shown on, or another command that it is given to, the options for its rules, the status that is wanted, and the
+    image that it is played over."""
 
     given: bytes
     width: int
@@ -16,6 +17,7 @@ class Counted(NamedTuple):
     command: str = "show"
     options: tuple[str, ...] = ()
     status: int = 0
+    image: bytes = b""
 
     def sides(self):
         """The words for its surface."""
@@ -23,11 +25,11 @@ class Counted(NamedTuple):
 
     def preparing(self):
         """The words that prepare what the command needs beside the file named `file`, if it needs anything."""
-        return ["prepare", "file", *self.sides(), "certificate", *self.options] if self.command in ("check", "play") else None
+        return ["prepare", "file", *self.sides(), "certificate", *self.options] if self.command in ("check", "play", "over") else None
 
     def words(self):
         """The words of the command that is counted, on a file named `file`."""
-        certified = {"check": ["file", "certificate"], "play": ["file", "certificate", *self.sides()]}
+        certified = {"check": ["file", "certificate"], "play": ["file", "certificate", *self.sides()], "over": ["file", "certificate", "image"]}
         plain = {"show": ["file", *self.sides()], "list": ["file"], "info": ["file"]}
         return [self.command, *(certified.get(self.command) or [*plain[self.command], *self.options])]
 
