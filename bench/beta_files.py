@@ -1,11 +1,13 @@
-"""Files on which slips make the way that drawings are painted slow, and that no other counted file shows: thin strokes over and over the same pixels,
-cuts on both sides, rows of many spans, hatches of few rows, and entries that are widened."""
+"""Files on which slips make the painting of drawings slow that no other counted file shows: thin strokes over and over the same pixels, cuts on both
+sides, rows of many spans, hatches of few rows, blits without their ink, and strokes that go another way than they should."""
 
 import random
 
+import beta_clipped_files
+import beta_record_files
 from instruction_files import Counted, noise
 from row_files import tiled
-from slip_files import listed, steep
+from slip_files import anywhere, listed, steep
 from writers import EMF, PATCOPY, SRCCOPY, WMF
 
 
@@ -50,17 +52,6 @@ def tiled_comb() -> Counted:
     width, height = 2048, 64
     places = [part for nth in range(200) for part in (nth * width // 200, nth % 2 * height)]
     return Counted(WMF.file([*tiled(), WMF.step("polygon", *places)], (width, height), 0), width, height)
-
-
-def late_wide_line() -> Counted:
-    """Dots, and a wide line behind them: the entries of all dots are widened once, and each is moved once."""
-    records = EMF.records("pixel 1 1") * 3_000 + EMF.records("styled_pen 0 0 3 0x8040; select 0; line 9 9")
-    return Counted(EMF.file(records, 64, 16), 64, 64)
-
-
-def one_pen_of_many() -> Counted:
-    """One pen and one line, where 65,535 objects may be, on a surface of many bands: only what is there is looked at, and each band begins once."""
-    return Counted(EMF.file(EMF.records("pen 0; select 0; line 5 5"), (8192, 1024), 65_535), 8192, 1024)
 
 
 def thin_scaled_polygons() -> Counted:
@@ -157,13 +148,56 @@ def polygons_in_two_corners() -> Counted:
     return Counted(EMF.file(records, side, 16), side, side)
 
 
-FILES = {
+def wide_rectangles(words: str, count: int) -> Counted:
+    """So many rectangles of 16 wide rows, behind the records that these words tell."""
+    records = WMF.records(f"null_pen 0; {words}") + [WMF.step("rectangle", 0, 0, 8192, 16)] * count
+    return Counted(WMF.file(records, (8192, 16), 0), 8192, 16)
+
+
+def inverted_rectangles() -> Counted:
+    """Those that invert: a row at a time."""
+    return wide_rectangles("solid_brush 1 0x804020; select 0; select 1; raster 7", 4)
+
+
+def rectangles_beside_a_cut() -> Counted:
+    """Those in one colour, while one pixel is cut out: a row at a time too, and in that colour."""
+    return wide_rectangles("solid_brush 1 0x804020; select 0; select 1; cut 1 1 2 2", 20)
+
+
+def flat_hatches() -> Counted:
+    """Those of a transparent hatch of flat lines, which has all pixels of a row, or none."""
+    return wide_rectangles("hatched_brush 1 0 0x804020; select 0; select 1; back_mode 1", 60)
+
+
+def narrow_rectangles_beside_a_cut() -> Counted:
+    """High rectangles of two columns in one colour, while one pixel is cut out: what is painted is made once for all rows."""
+    chance, width, height = random.Random(216), 8192, 64
+    records = WMF.records("null_pen 0; solid_brush 1 0x206040; select 0; select 1; cut 0 0 1 1")
+    records += [WMF.step("rectangle", left, 0, left + 2, height) for left in chance.choices(range(4_096, width - 3), k=400)]
+    return Counted(WMF.file(records, (width, height), 0), width, height)
+
+
+def steep_strokes_beside_flat_lines() -> Counted:
+    """Thin strokes of 60 steep lines, and of as many flat ones below the surface, which don't send the others another way."""
+    chance, side, records = random.Random(217), 256, []
+    for _ in range(10):
+        lines = [[chance.randrange(side), 0, chance.randrange(side), side - 1] for _ in range(60)]
+        records.append(EMF.step("short_polylines", *listed(lines + [[0, 300 + nth, 20_000, 301 + nth] for nth in range(60)])))
+    return Counted(EMF.file(records, side, 16), side, side)
+
+
+def wide_outline() -> Counted:
+    """A polygon of 300 lines, filled, and stroked by a nib of 9 by 9: a mask costs less than rows of spans."""
+    chance, side = random.Random(218), 512
+    records = EMF.records("styled_pen 0 0 9 0x8040; select 0") + [EMF.step("short_polygon", *anywhere(chance, 300, 0, side, side))]
+    return Counted(EMF.file(records, side, 16), side, side)
+
+
+FILES = beta_clipped_files.FILES | beta_record_files.FILES | {
     "4,200 steep lines on 64 columns, a thin pen": crowded_thin_stroke,
     "36 wide drawings between cuts, 8,192 by 64": wide_drawings_between_cuts,
     "3,000 hatched rectangles of one row, 64 by 64": low_hatched_rectangles,
     "a tiled polygon of a hundred spans a row": tiled_comb,
-    "3,000 dots before a wide line": late_wide_line,
-    "one pen of 65,535, 8,192 by 1,024": one_pen_of_many,
     "5 scaled polygons above a surface, a thin pen": thin_scaled_polygons,
     "30 blits without their ink, 512 by 16": blits_without_their_ink,
     "2 tiled rectangles copied, 1,024 by 64": copied_tiles,
@@ -174,17 +208,24 @@ FILES = {
     "60 slanted strokes, 1,024 by 64": slanted_strokes,
     "5 strokes from far above, 4,096 by 16": strokes_from_above,
     "8 records of polygons in two corners, 2,048 by 2,048": polygons_in_two_corners,
+    "4 wide rectangles inverted, 8,192 by 16": inverted_rectangles,
+    "20 wide rectangles beside a cut, 8,192 by 16": rectangles_beside_a_cut,
+    "60 flat hatches, 8,192 by 16": flat_hatches,
+    "400 narrow rectangles beside a cut, 8,192 by 64": narrow_rectangles_beside_a_cut,
+    "10 steep strokes beside flat lines, 256 by 256": steep_strokes_beside_flat_lines,
+    "a wide outline of 300 lines, nib 9 by 9": wide_outline,
 }
 
 # What is to show in these is a small part of their work.
-CLOSE = dict.fromkeys(
+CLOSE = beta_clipped_files.CLOSE | beta_record_files.CLOSE | dict.fromkeys(
     [
         "3,000 hatched rectangles of one row, 64 by 64",
-        "one pen of 65,535, 8,192 by 1,024",
         "5 scaled polygons above a surface, a thin pen",
         "2 tiled rectangles copied, 1,024 by 64",
         "2 tiled rectangles mixed, 1,024 by 64",
         "200 flat wide strokes, 1,200 by 1,024",
+        "4 wide rectangles inverted, 8,192 by 16",
+        "60 slanted strokes, 1,024 by 64",
     ],
     1.15,
 )
