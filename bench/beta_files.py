@@ -17,6 +17,14 @@ def crowded_thin_stroke() -> Counted:
     return Counted(EMF.file([steep(random.Random(201), 4_200, width, height)], (width, height), 16), width, height)
 
 
+def strokes_of_three_quarters() -> Counted:
+    """Thin strokes of 100 steep lines, which have three quarters of the pixels of their box, in a file that has a mask, since another stroke is long:
+    they are marked as visited, and not by that mask."""
+    chance, width, height = random.Random(223), 128, 512
+    records = [EMF.step("short_polyline", *[600, 600, 601, 601] * 2_500)] + [steep(chance, 100, width, height) for _ in range(5)]
+    return Counted(EMF.file(records, (width, height), 16), width, height)
+
+
 def cut_from_both_sides() -> list[bytes]:
     """Records that cut out sixteen boxes, by turns at the left and at the right of what the others leave: eight columns in the middle of a wide
     surface."""
@@ -195,6 +203,7 @@ def wide_outline() -> Counted:
 
 FILES = beta_clipped_files.FILES | beta_record_files.FILES | {
     "4,200 steep lines on 64 columns, a thin pen": crowded_thin_stroke,
+    "5 strokes of three quarters of their box, 128 by 512": strokes_of_three_quarters,
     "36 wide drawings between cuts, 8,192 by 64": wide_drawings_between_cuts,
     "3,000 hatched rectangles of one row, 64 by 64": low_hatched_rectangles,
     "a tiled polygon of a hundred spans a row": tiled_comb,
