@@ -5,6 +5,7 @@ import random
 
 import beta_clipped_files
 import beta_record_files
+import beta_stroke_files
 from instruction_files import Counted, noise
 from row_files import tiled
 from slip_files import anywhere, listed, steep
@@ -177,6 +178,11 @@ def flat_hatches() -> Counted:
     return wide_rectangles("hatched_brush 1 0 0x804020; select 0; select 1; back_mode 1", 60)
 
 
+def opaque_hatches() -> Counted:
+    """Those of an opaque hatch: a row at a time, in two colours that repeat."""
+    return wide_rectangles("hatched_brush 1 4 0x804020; select 0; select 1; back_mode 2", 30)
+
+
 def narrow_rectangles_beside_a_cut() -> Counted:
     """High rectangles of two columns in one colour, while one pixel is cut out: what is painted is made once for all rows."""
     chance, width, height = random.Random(216), 8192, 64
@@ -201,7 +207,7 @@ def wide_outline() -> Counted:
     return Counted(EMF.file(records, side, 16), side, side)
 
 
-FILES = beta_clipped_files.FILES | beta_record_files.FILES | {
+FILES = beta_clipped_files.FILES | beta_record_files.FILES | beta_stroke_files.FILES | {
     "4,200 steep lines on 64 columns, a thin pen": crowded_thin_stroke,
     "5 strokes of three quarters of their box, 128 by 512": strokes_of_three_quarters,
     "36 wide drawings between cuts, 8,192 by 64": wide_drawings_between_cuts,
@@ -220,6 +226,7 @@ FILES = beta_clipped_files.FILES | beta_record_files.FILES | {
     "4 wide rectangles inverted, 8,192 by 16": inverted_rectangles,
     "20 wide rectangles beside a cut, 8,192 by 16": rectangles_beside_a_cut,
     "60 flat hatches, 8,192 by 16": flat_hatches,
+    "30 opaque hatches, 8,192 by 16": opaque_hatches,
     "400 narrow rectangles beside a cut, 8,192 by 64": narrow_rectangles_beside_a_cut,
     "10 steep strokes beside flat lines, 256 by 256": steep_strokes_beside_flat_lines,
     "a wide outline of 300 lines, nib 9 by 9": wide_outline,
