@@ -1,11 +1,11 @@
-"""Files on which slips make drawings slow in a box that is kept, beside a pixel that is cut out, or by another raster operation or fill mode than most
-files have: each takes the same way there as without."""
+"""Files on which slips make drawings slow in a box that is kept, beside a pixel that is cut out, or by another raster operation or fill mode than
+most files have: each takes the same way there as without. Small drawings in bands too."""
 
 import random
 
 from instruction_files import Counted
 from slip_files import anywhere, steep
-from writers import EMF, WMF
+from writers import EMF, PATINVERT, WMF
 
 # Another raster operation (R2_NOTCOPYPEN) and fill mode than most files have, a box that is kept, and a pixel that is cut out of it.
 MODES, KEPT, CUT = "raster 4; fill_mode 2", "keep 1 0 8191 8191", "cut 1 1 2 2"
@@ -63,6 +63,26 @@ def wide_outline_in_a_box() -> Counted:
     return Counted(EMF.file(records, side, 16), side, side)
 
 
+def small_in_bands(seed: int, name: str, *front: int) -> Counted:
+    """A thousand small drawings of this name on a surface of several bands: each is passed over where it doesn't lie."""
+    chance, width, height = random.Random(seed), 8192, 512
+    records = WMF.records("solid_brush 0 0x206040; select 0")
+    for _ in range(1_000):
+        left, top, is_box = chance.randrange(width - 9), chance.randrange(height - 9), name == "rectangle"
+        records.append(WMF.step(name, *front, left, top, *((left + 4, top + 4) if is_box else (4, 4))))
+    return Counted(WMF.file(records, (width, height), 0), width, height)
+
+
+def small_rectangles_in_bands() -> Counted:
+    """Rectangles."""
+    return small_in_bands(231, "rectangle")
+
+
+def small_blits_in_bands() -> Counted:
+    """Blits of a brush."""
+    return small_in_bands(232, "pat_blt", PATINVERT)
+
+
 FILES = {
     "600 narrow rectangles in a kept box, 8,192 by 64": narrow_rectangles_in_a_box,
     "400 narrow polygons in a kept box, 8,192 by 64": narrow_polygons_in_a_box,
@@ -71,6 +91,8 @@ FILES = {
     "500 lone lines in a kept box, 512 by 512": lone_lines_in_a_box,
     "4,200 steep lines in a kept box, a thin pen": crowded_stroke_in_a_box,
     "a wide outline in a kept box, nib 9 by 9": wide_outline_in_a_box,
+    "1,000 small rectangles in bands, 8,192 by 512": small_rectangles_in_bands,
+    "1,000 small blits in bands, 8,192 by 512": small_blits_in_bands,
 }
 
 # What is to show in these is a small part of their work.
@@ -79,6 +101,7 @@ CLOSE = dict.fromkeys(
         "200 hatched rectangles in a kept box, 8,192 by 64",
         "200 hatched polygons in a kept box, 8,192 by 64",
         "a wide outline in a kept box, nib 9 by 9",
+        "1,000 small blits in bands, 8,192 by 512",
     ],
     1.15,
 )

@@ -75,7 +75,8 @@ def thin_scaled_polygons() -> Counted:
 
 
 def blits_without_their_ink() -> Counted:
-    """Blits that copy a bitmap while a tiled brush is selected, and blits of a solid brush that have a bitmap: neither reads what it doesn't paint."""
+    """Blits that copy a bitmap while a tiled brush is selected, and blits of a solid brush that have a bitmap: neither reads what it doesn't
+    paint."""
     whole = 0, 0, 512, 16, 0, 0, 64, 16, str(noise(64, 24))
     records = [*tiled(), *[WMF.step("stretch_dib", SRCCOPY, *whole)] * 15, *WMF.records("solid_brush 2 0x804020; select 2")]
     records += [WMF.step("stretch_dib", PATCOPY, *whole)] * 15

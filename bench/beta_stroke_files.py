@@ -1,5 +1,5 @@
-"""Files on which slips make wide strokes slow that no other counted file shows: strokes in two corners of many lines and of high ones, and outlines of
-filled polygons whose lines lie beside the surface."""
+"""Files on which slips make wide strokes slow that no other counted file shows: strokes in two corners of many lines and of high ones, and outlines
+of filled polygons whose lines lie beside the surface."""
 
 import random
 
