@@ -233,7 +233,7 @@ FILES = beta_clipped_files.FILES | beta_record_files.FILES | beta_stroke_files.F
     "a wide outline of 300 lines, nib 9 by 9": wide_outline,
 }
 
-# What is to show in these is a small part of their work.
+# What is to show in these is a small part of their work. One of them is in `slip_files`.
 CLOSE = beta_clipped_files.CLOSE | beta_record_files.CLOSE | dict.fromkeys(
     [
         "3,000 hatched rectangles of one row, 64 by 64",
@@ -243,6 +243,7 @@ CLOSE = beta_clipped_files.CLOSE | beta_record_files.CLOSE | dict.fromkeys(
         "200 flat wide strokes, 1,200 by 1,024",
         "4 wide rectangles inverted, 8,192 by 16",
         "60 slanted strokes, 1,024 by 64",
+        "10 scaled polygons above a surface, 4 by 4",
     ],
     1.15,
 )
