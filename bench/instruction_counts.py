@@ -9,17 +9,35 @@ import subprocess
 import tempfile
 from concurrent.futures import ThreadPoolExecutor
 
-import alpha_files
+import clipped_files
+import fill_files
+import image_files
 import instruction_files
+import paint_files
+import record_files
 import row_files
 import slip_files
 import stroke_files
+import wide_stroke_files
 from print_files import PARTS, named_print, under_print
 from writers import PROGRAM, ROOT
 
+MODULES = [
+    instruction_files,
+    row_files,
+    stroke_files,
+    slip_files,
+    fill_files,
+    image_files,
+    paint_files,
+    clipped_files,
+    record_files,
+    wide_stroke_files,
+]
+
 # The files whose instructions are counted under both profiles, and those of them with a limit of their own.
-BOTH = instruction_files.FILES | row_files.FILES | stroke_files.FILES | slip_files.FILES | alpha_files.FILES
-CLOSE_BOTH = instruction_files.CLOSE | row_files.CLOSE | alpha_files.CLOSE
+BOTH = {name: made for module in MODULES for name, made in module.FILES.items()}
+CLOSE_BOTH = {name: most for module in MODULES for name, most in getattr(module, "CLOSE", {}).items()}
 
 # Each file under the core profile and under the print profile, and those whose work is in parts of a unit.
 FILES = BOTH | {named_print(name): under_print(made) for name, made in BOTH.items()} | PARTS

@@ -1,9 +1,8 @@
 """Files on which slips in fills and masks make the program slow that no other counted file shows: edges in order and in a new order in each row,
-tables, counts by windings, lines beside and between what is covered, and cuts. Those of blits and images stand in `alpha_images`."""
+tables, counts by windings, lines beside and between what is covered, and cuts."""
 
 import random
 
-import alpha_images
 from instruction_files import Counted
 from slip_files import listed
 from writers import EMF
@@ -183,19 +182,16 @@ FILES = {
     "10 strokes behind a wide cut, 8,192 by 64": strokes_behind_a_wide_cut,
     "4,000 lines between covers, nib 3 by 3": lines_between_covers,
     "12,000 lines beside the cover, nib 5 by 5": lines_beside_the_cover,
-} | alpha_images.FILES
+}
 
 # What is to show in these is a part of their work.
-CLOSE = (
-    dict.fromkeys(
-        [
-            "1,200 upright teeth, 1,100 by 200",
-            "1,200 upright teeth, 1,100 by 200, by windings",
-            "60 high polygons of two edges, by windings",
-            "2,400 short steep lines, nib 40 by 40",
-            "2,400 short steep lines, nib 3 by 3",
-        ],
-        1.1,
-    )
-    | alpha_images.CLOSE
+CLOSE = dict.fromkeys(
+    [
+        "1,200 upright teeth, 1,100 by 200",
+        "1,200 upright teeth, 1,100 by 200, by windings",
+        "60 high polygons of two edges, by windings",
+        "2,400 short steep lines, nib 40 by 40",
+        "2,400 short steep lines, nib 3 by 3",
+    ],
+    1.1,
 )

@@ -1,0 +1,95 @@
+"""Files on which slips make slow what is done with records and certificates, and that no other counted file shows: entries that are widened, boxes as
+large as the surface, long lists of which nothing is seen, lists without points, and lines of a listing."""
+
+import random
+
+from instruction_files import Counted
+from writers import BETWEEN, EMF, WMF
+
+
+def late_wide_line() -> Counted:
+    """Dots, and a wide line behind them: the entries of all dots are widened once, and each is moved once."""
+    records = EMF.records("pixel 1 1") * 3_000 + EMF.records("styled_pen 0 0 3 0x8040; select 0; line 9 9")
+    return Counted(EMF.file(records, 64, 16), 64, 64)
+
+
+def one_pen_of_many() -> Counted:
+    """One pen and one line, where 65,535 objects may be, on a surface of many bands: only what is there is looked at, and each band begins once."""
+    return Counted(EMF.file(EMF.records("pen 0; select 0; line 5 5"), (8192, 1024), 65_535), 8192, 1024)
+
+
+def large_drawings() -> list[bytes]:
+    """Records of drawings as large as the largest surface."""
+    return EMF.records("rectangle 0 0 8191 8191; line 8000 8000; pixel 5 5; polygon 0 0 8191 8191 0 8191") * 1_500
+
+
+def checked_large_drawings() -> Counted:
+    """6,000 drawings as large as the largest surface, checked: the pixels of a box are counted by one product."""
+    return Counted(EMF.file(large_drawings(), 8192, 16), 8192, 8192, command="check")
+
+
+def told_large_drawings() -> Counted:
+    """The same, given to `info`, which prepares them."""
+    return checked_large_drawings()._replace(command="info")
+
+
+def unseen_lists(name: str) -> Counted:
+    """Lists of 10,000 points right of a box that is kept: each is gone through once in each play."""
+    chance, side = random.Random(214), 1024
+    records = EMF.records(f"keep 0 0 8 {side}; move 500 500")
+    for _ in range(15):
+        records.append(EMF.step(name, *(part for _ in range(10_000) for part in (100 + chance.randrange(900), chance.randrange(side)))))
+    return Counted(EMF.file(records, side, 16), side, side)
+
+
+def unseen_polylines() -> Counted:
+    """Those of polylines."""
+    return unseen_lists("short_polyline")
+
+
+def unseen_lines_from_the_position() -> Counted:
+    """Those of lines from the position."""
+    return unseen_lists("polyline_to")
+
+
+def empty_lists_in_a_path() -> Counted:
+    """Paths of 60,000 lists without points between two of one point, of which nothing is seen: how many points they have stands in the record."""
+    records = EMF.records("null_pen 0; select 0; keep 0 0 1 1")
+    for _ in range(6):
+        lists = EMF.step("short_polygons", 20, 20, *[BETWEEN] * 60_000, 30, 30)
+        records += [EMF.step("begin_path"), lists, *EMF.records("end_path; fill_path")]
+    return Counted(EMF.file(records, 64, 16), 64, 64)
+
+
+def told_empty_lists() -> Counted:
+    """300,000 empty lists in one record, given to `info`: the record is decoded once in each play."""
+    return Counted(EMF.file([EMF.step("short_polygons", *[BETWEEN] * 300_000, 0, 0)], 64, 16), 64, 64, command="info")
+
+
+def listed_long_names() -> Counted:
+    """Records without an effect and with long names, listed: most of the work is their text."""
+    records = [WMF.record(kind, bytes(2)) for kind in (0x0107, 0x020A, 0x0412, 0x01F9)] * 2_500
+    return Counted(WMF.file(records, 64, 0), 64, 64, command="list")
+
+
+FILES = {
+    "3,000 dots before a wide line": late_wide_line,
+    "one pen of 65,535, 8,192 by 1,024": one_pen_of_many,
+    "6,000 large drawings, checked": checked_large_drawings,
+    "6,000 large drawings, info": told_large_drawings,
+    "15 unseen polylines of 10,000 points": unseen_polylines,
+    "15 lists of 10,000 unseen points from the position": unseen_lines_from_the_position,
+    "360,000 empty lists in paths": empty_lists_in_a_path,
+    "300,000 empty lists, info": told_empty_lists,
+    "10,000 records of long names, listed": listed_long_names,
+}
+
+# What is to show in these is a small part of their work.
+CLOSE = dict.fromkeys(
+    [
+        "one pen of 65,535, 8,192 by 1,024",
+        "15 lists of 10,000 unseen points from the position",
+        "300,000 empty lists, info",
+    ],
+    1.15,
+) | {"10,000 records of long names, listed": 1.1}
