@@ -11,7 +11,7 @@ use span_fill::{Line, Outline, Region, Span};
 const STEPS_A_ROW: usize = 4;
 
 /// To clear and read so many pixels of a stroke mask takes no longer than a line's spans in one row.
-const PIXELS_A_ROW: usize = 512;
+const PIXELS_A_ROW: usize = 256;
 
 /// For a line with fewer columns and rows than this, both methods cost about the same.
 const SHORT: u32 = 16;
