@@ -11,7 +11,10 @@ use span_fill::{Line, Outline, Region, Span};
 const STEPS_A_ROW: usize = 4;
 
 /// To clear and read so many pixels of a stroke mask takes no longer than a line's spans in one row.
-const PIXELS_A_ROW: usize = 512;
+const PIXELS_A_ROW: usize = 32;
+
+/// The same where the clip cuts boxes out, since spans take longer there.
+const PIXELS_A_CUT_ROW: usize = 256;
 
 /// For a line with fewer columns and rows than this, both methods cost about the same.
 const SHORT: u32 = 16;
@@ -78,7 +81,10 @@ pub(crate) fn stroke_mask_pays(shares: Shares, drawn: Region, clip: &Clip) -> bo
     if visited_mask_pays(shares, drawn, clip) {
         return shares.rows > pixels(drawn);
     }
-    shares.rows > pixels(drawn) / PIXELS_A_ROW
+    if clip.cut_boxes().is_empty() {
+        return shares.rows > pixels(drawn) / PIXELS_A_ROW;
+    }
+    shares.rows > pixels(drawn) / PIXELS_A_CUT_ROW
 }
 
 /// The shares of an outline's long lines in a box. All lines are examined, so the result doesn't depend on their order.
