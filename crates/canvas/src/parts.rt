@@ -75,7 +75,7 @@ fn fill_by_eights(part: &mut [Colour], splat: &Splat)
 fn repeat_first(part: &mut [Colour], first: usize)
     requires some { 1 ≤ first }
     requires within { first ≤ length part.old }
-    ensures { (colour : Colour) → EachIs first part.old (λ k any. colour) → EachIs (length part.old) part.new (λ k any. colour) }
+    ensures { (ink : Colour) → EachIs first part.old (λ k any. ink) → EachIs (length part.old) part.new (λ k any. ink) }
 {
     let mut filled = first;
     while filled < part.len() {
