@@ -91,6 +91,22 @@ def steep(pen: Pen, count: int, seed: int) -> Places:
         yield top + number % 2 * (height - 1)
 
 
+def flat(pen: Pen, count: int, seed: int) -> Places:
+    """So many points of any row, by turns in the first column and in the last one."""
+    chance, (left, top), (width, height) = random.Random(seed), pen.least, pen.units
+    for number in range(count):
+        yield left + number % 2 * (width - 1)
+        yield top + chance.randrange(height)
+
+
+def beside(pen: Pen, count: int, seed: int) -> Places:
+    """So many points anywhere on the surface, and beside it as far as it is wide and high."""
+    chance = random.Random(seed)
+    for _ in range(count):
+        for least, units in zip(pen.least, pen.units, strict=True):
+            yield least + chance.randrange(-units, 2 * units)
+
+
 def zigzag(pen: Pen, count: int, seed: int) -> Places:
     """The same, but for columns that are far apart, and none of which comes again soon."""
     (left, top), (width, height) = pen.least, pen.units
@@ -175,6 +191,9 @@ FILES = {
     "2,000 drawings in two far corners, nib 4,096 by 4,096": Hostile(corners(PENS.widest, 2_000), 3),
     "2,000 drawings in two far corners, nib 2 by 2": Hostile(corners(PENS.narrow, 2_000), 3),
     "a zigzag of 100,000 points, nib 3 by 3": Hostile(stroke(PENS.third, zigzag, 100_000), 2),
+    "a zigzag of 100,000 points, a thin pen, a pixel cut out": Hostile(stroke(PENS.thin, zigzag, 100_000, is_cut=True), 2),
+    "100,000 flat points, nib 2 by 2": Hostile(stroke(PENS.narrow, flat, 100_000), 2),
+    "100,000 points on and beside the surface, nib 2 by 2": Hostile(stroke(PENS.narrow, beside, 100_000), 2),
     "a path of 65,536 pieces, nib 64 by 64": Hostile(path(PENS.broad), 2),
     "65,536 steep lines, a thin pen": Hostile(stroke(PENS.thin, steep, 65_537), 4),
     "a path of 65,535 lines, a thin pen": Hostile(path(PENS.thin), 2),
