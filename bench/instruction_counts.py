@@ -9,6 +9,7 @@ import subprocess
 import tempfile
 from concurrent.futures import ThreadPoolExecutor
 
+import gamma_files
 import instruction_files
 import row_files
 import slip_files
@@ -17,7 +18,7 @@ from print_files import PARTS, named_print, under_print
 from writers import PROGRAM, ROOT
 
 # The files whose instructions are counted under both profiles, and those of them with a limit of their own.
-BOTH = instruction_files.FILES | row_files.FILES | stroke_files.FILES | slip_files.FILES
+BOTH = instruction_files.FILES | row_files.FILES | stroke_files.FILES | slip_files.FILES | gamma_files.FILES
 CLOSE_BOTH = instruction_files.CLOSE | row_files.CLOSE
 
 # Each file under the core profile and under the print profile, and those whose work is in parts of a unit.
