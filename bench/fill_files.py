@@ -69,6 +69,17 @@ def edges_on_few_columns_by_windings() -> Counted:
     return filled([zigzag(500, 16, 16)] * 20, 16, 16, 2)
 
 
+def table_at_the_right() -> Counted:
+    """A polygon of 8,400 edges that cross each row, in eight columns at the right of a surface: its rows are read from a table, as at the left."""
+    width, height = 256, 1024
+    return filled([[part for nth in range(8_400) for part in (240 + nth * 2_654_435_761 % 8, nth % 2 * height)]], width, height)
+
+
+def few_rows_for_a_table() -> Counted:
+    """8,400 edges in so few rows that to move them from row to row takes less time than a table of 60 columns."""
+    return filled([zigzag(8_400, 60, 64)], 60, 64)
+
+
 def short_lines_behind_a_cut() -> Counted:
     """A thin stroke behind a cut, which goes by rows of spans: of 8,000 short lines one half ends in one row, and the other begins in rows from the
     last one upwards."""
@@ -172,6 +183,8 @@ FILES = {
     "6 polygons of 8,256 edges, 12 by 56": polygons_of_few_rows,
     "20 polygons of 500 edges, 16 by 16": edges_on_few_columns,
     "20 polygons of 500 edges, 16 by 16, by windings": edges_on_few_columns_by_windings,
+    "8,400 edges in a table at the right, 256 by 1,024": table_at_the_right,
+    "8,400 edges without a table, 60 by 64": few_rows_for_a_table,
     "8,000 short lines behind a cut, 8,192 by 64": short_lines_behind_a_cut,
     "200 lone lines from far to far, 256 by 256": far_lone_lines,
     "20 diagonal lines in bands, nib 5 by 5": diagonal_lines_in_bands,

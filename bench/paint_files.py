@@ -53,6 +53,16 @@ def low_hatched_rectangles() -> Counted:
     return Counted(WMF.file(records, side, 0), side, side)
 
 
+def slanting_tiles_behind_a_cut() -> Counted:
+    """Narrow tiled polygons from one corner to the other, while one pixel is cut out: the tile is gathered for the columns of each row alone."""
+    chance, width, height = random.Random(701), 8192, 64
+    records = [*tiled(), WMF.step("cut", width - 1, 0, width, 1)]
+    for _ in range(40):
+        left = chance.randrange(8)
+        records.append(WMF.step("polygon", left, 0, left + 4, 0, width - 1, height - 1, width - 5, height - 1))
+    return Counted(WMF.file(records, (width, height), 0), width, height)
+
+
 def tiled_comb() -> Counted:
     """A tiled polygon whose rows have a hundred spans each: the tile is gathered once for a row."""
     width, height = 2048, 64
@@ -210,6 +220,7 @@ FILES = {
     "5 strokes of three quarters of their box, 128 by 512": strokes_of_three_quarters,
     "36 wide drawings between cuts, 8,192 by 64": wide_drawings_between_cuts,
     "3,000 hatched rectangles of one row, 64 by 64": low_hatched_rectangles,
+    "40 slanting tiled polygons behind a cut, 8,192 by 64": slanting_tiles_behind_a_cut,
     "a tiled polygon of a hundred spans a row": tiled_comb,
     "5 scaled polygons above a surface, a thin pen": thin_scaled_polygons,
     "30 blits without their ink, 512 by 16": blits_without_their_ink,

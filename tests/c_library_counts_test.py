@@ -15,7 +15,7 @@ from metafile.scripts import WMF
 MOST = 1.15
 
 # Surfaces that are high or wide, which are played in many bands, and one that is played in few.
-SURFACES = [(300, 8192), (8192, 300), (600, 600)]
+SURFACES = [(300, 8192), (8192, 300), (600, 600), (64, 8192), (2048, 2048)]
 
 
 def small_drawings(width, height):

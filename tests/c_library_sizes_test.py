@@ -1,6 +1,7 @@
 """The calls of the library for C at every width and every height of a surface, and with certificates and buffers of every length that is cheap: none gives
 up at one of them, and each answers what was worked out by hand."""
 
+import itertools
 import unittest
 
 from built import DOT
@@ -12,8 +13,14 @@ from metafile.scripts import WMF
 
 MOST_SIDE = 8192
 
-# How many drawings a file has at most, and how many bytes a certificate that is cut short.
+# How many drawings a file has at most where each smaller number is tried, and how many bytes a certificate that is cut short.
 MOST_DRAWINGS, MOST_CUT = 1500, 8192
+
+# Greater numbers of drawings.
+MANY_DRAWINGS = [*range(2_000, 10_001, 1_000), 4095, 4096, 4097, 8191, 8192, 8193, 16_383, 16_384, 32_768, 65_536, 100_000]
+
+# How many bytes follow a file's end at most, and the sides of the largest square of which each is played, and of the largest oblong.
+MOST_MORE, MOST_SQUARE, MOST_OBLONG = 1 << 16, 1_024, 64
 
 # What a certificate of the print profile has behind its signature where nothing is allowed.
 NOTHING_ALLOWED = u32(0)
@@ -69,6 +76,15 @@ class Sizes(unittest.TestCase):
                 self.assertEqual(told, plain(SHOW.DONE, len(wanted)), sides)
                 self.assertTrue(image.written(len(wanted)) == wanted, sides)
 
+    def test_play_at_each_square_and_each_small_oblong(self):
+        certificate = dot_certificate(MOST_SIDE, MOST_SIDE)
+        oblongs = itertools.product(range(1, MOST_OBLONG + 1), repeat=2)
+        for sides in (*oblongs, *((side, side) for side in range(1, MOST_SQUARE + 1))):
+            wanted = dot_image(*sides)
+            told, image = play(DOT, certificate, sides, len(wanted))
+            self.assertEqual(told, plain(SHOW.DONE, len(wanted)), sides)
+            self.assertTrue(image.written(len(wanted)) == wanted, sides)
+
     def test_fitted_sides_at_each_width_and_height(self):
         # The frame is a square.
         for side in range(1, MOST_SIDE + 1):
@@ -81,7 +97,7 @@ class Lengths(unittest.TestCase):
 
     def test_certificates_of_each_length(self):
         # Entries of 20 bytes, of 24 in a certificate with a wide pen, and under the print profile.
-        for count in range(MOST_DRAWINGS):
+        for count in (*range(MOST_DRAWINGS), *MANY_DRAWINGS):
             for given, length, made in [
                 (pixels(count), 40 + 20 * count, prepare),
                 (pixels(count, wide=True), 40 + 24 * (count + 1), prepare),
@@ -126,8 +142,14 @@ class Lengths(unittest.TestCase):
 
     def test_files_of_each_length(self):
         # A record is skipped after the end, and so is what isn't even a record.
-        for more in range(4096):
-            self.assertEqual(check(DOT + bytes(more), DOT_CERT), plain(SHOW.DONE), more)
+        certificate, wanted = dot_certificate(4, 4), dot_image(4, 4)
+        for more in range(MOST_MORE):
+            given = DOT + bytes(more)
+            self.assertEqual(check(given, certificate), plain(SHOW.DONE), more)
+            told, buffer = prepare(given, (4, 4), len(certificate))
+            self.assertEqual((told, buffer.written(len(certificate))), (plain(SHOW.DONE, len(certificate)), certificate), more)
+            told, image = play(given, certificate, (4, 4), len(wanted))
+            self.assertEqual((told, image.written(len(wanted))), (plain(SHOW.DONE, len(wanted)), wanted), more)
 
 
 if __name__ == "__main__":

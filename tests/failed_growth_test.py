@@ -268,6 +268,18 @@ class RefusedGrowth(RefusedGrowthTest):
                         self.assertEqual((self.refused(1, program, words) or OUT_OF_MEMORY).status, 4)
                         self.assertIsNone(self.refused(most, program, words))
 
+    def test_the_largest_certificates_grow_by_more_than_one_at_a_time(self):
+        # Twenty calls make room for the first MiB of the entries, and one for each MiB more. The entries of pixels are made wide at the end, or
+        # are wide from the start.
+        many, most, wide = 1_048_000, 200, "styled_pen 0 0 3 0; select 0; rectangle 0 0 2 2"
+        file, output = self.mark.with_name("file"), self.mark.with_name("output")
+        for script in (f"{many}x pixel 1 1; {wide}", f"{wide}; {many}x pixel 1 1"):
+            file.write_bytes(WMF.file(WMF.records(script), 4, 1))
+            for program in PROGRAMS:
+                with self.subTest(program=program.name, script=script[:20]):
+                    self.assertIsNone(self.refused(most, program, ["prepare", str(file), "4", "4", str(output)]))
+                    self.assertEqual(output.stat().st_size, 40 + 24 * (many + 1))
+
 
 if __name__ == "__main__":
     unittest.main()

@@ -152,6 +152,9 @@ class Installation(unittest.TestCase):
         wanted = {moved.get(name, name): is_program for name, is_program in INSTALLED.items()} | {"share/doc/metaplay/changelog.gz": False}
         self.assertEqual(subprocess.run(["dpkg-deb", "-I", package, "triggers"], capture_output=True, check=True).stdout, b"activate-noawait ldconfig\n")
         self.assertEqual(files_in(whole / "usr"), wanted)
+        # Folders, that of the whole package too, programs, other files, and a link.
+        modes = {line.split()[0] for line in subprocess.run(["dpkg-deb", "-c", package], capture_output=True, text=True, check=True).stdout.splitlines()}
+        self.assertEqual(modes, {"drwxr-xr-x", "-rwxr-xr-x", "-rw-r--r--", "lrwxrwxrwx"})
         self.assertEqual(answer(whole / "usr/bin/metaplay", ["show", "stdin", "4", "4"], DOT), Answer(0, DOT_IMAGE, b""))
         if shutil.which("lintian"):
             told = subprocess.run(["lintian", "--allow-root", package], capture_output=True, text=True, check=False).stdout

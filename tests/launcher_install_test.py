@@ -53,14 +53,27 @@ class Installing(Folder):
         self.assertRegex(err, r"metaplay: low could not be built; see .*low\.log\n")
         self.assertFalse(self.prefix.exists())
 
-    def test_a_file_of_the_user_stays_in_each_folder(self):
-        self.is_installed(["low", "meta_main", "low", "metaplay_c"])
-        own = [self.prefix / folder / "mine" for folder in ("share/metaplay/recipes", "share/metaplay", "share/doc/metaplay", "bin", "lib")]
+    def stay(self, own):
+        """Checks that these files, and no others, are left when an installation is removed."""
         for path in own:
             path.write_text(str(path))
+            path.chmod(0o755 if path.suffix == ".sh" else 0o644)
         self.assertEqual(self.call("uninstall", str(self.prefix)), (0, "", ""))
         self.assertEqual(sorted(path for path in self.prefix.rglob("*") if not path.is_dir()), sorted(own))
         self.assertEqual([path.read_text() for path in own], [str(path) for path in own])
+
+    def test_files_of_the_user_stay_in_each_folder(self):
+        self.is_installed(["low", "meta_main", "low", "metaplay_c"])
+        folders = [self.prefix, *(path for path in self.prefix.rglob("*") if path.is_dir())]
+        self.assertIn(self.prefix / "share/metaplay/recipes", folders)
+        self.stay([folder / name for folder in folders for name in ("mine", ".mine", "mine.sh", "mine.md", "metaplay-mine", "libmetaplay.mine", "a *")])
+
+    def test_a_lone_file_of_the_user_stays(self):
+        self.is_installed(["low", "meta_main", "low", "metaplay_c"])
+        for folder in ("share/metaplay/recipes", "share/metaplay", "share/doc/metaplay"):
+            self.stay([self.prefix / folder / "mine"])
+            (self.prefix / folder / "mine").unlink()
+            self.is_installed([])
 
     def test_nothing_is_built_to_uninstall(self):
         told = f"metaplay: nothing was installed below {self.prefix}\n"

@@ -142,10 +142,22 @@ class Launcher(Folder):
             self.calls()
             run = self.begin("list", "x")
             self.wait_for(lambda: (self.kit / "calls").exists())
+            self.assertTrue(self.is_building())
             run.send_signal(number)
             out, _ = run.communicate(timeout=60)
             self.assertEqual((run.returncode, out), (3, ""), number)
+            self.wait_for(lambda: not self.is_building())
             self.assertEqual(sorted(path.name for path in (self.root / "crates/meta_main/out").iterdir()), ["lock"])
+
+    def is_building(self):
+        """Whether the toolchain still runs."""
+        name = f"\0{self.folder}/bin/rt\0".encode()
+        for process in pathlib.Path("/proc").glob("[0-9]*/cmdline"):
+            # (a process may end meanwhile)
+            with contextlib.suppress(OSError):
+                if name in process.read_bytes():
+                    return True
+        return False
 
     def kill_group(self, group):
         """Kills what is left of a group of processes."""
@@ -220,11 +232,12 @@ class Put(unittest.TestCase):
         with tempfile.TemporaryDirectory() as folder:
             path = pathlib.Path(folder, "a file")
             for old in (None, "old"):
-                path.unlink(missing_ok=True)
-                if old:
-                    path.write_text(old)
+                path.write_text(old or "")
                 words = ["sh", "-uc", 'root=$1; . "$1/launcher/program.sh"; put "$2"', "sh", ROOT, path]
-                with subprocess.Popen(words, stdin=subprocess.PIPE) as run:
+                # Who has opened the old file reads all of it, also afterwards.
+                with path.open() as opened, subprocess.Popen(words, stdin=subprocess.PIPE) as run:
+                    if old is None:
+                        path.unlink()
                     run.stdin.write(b"a beginning, ")
                     run.stdin.flush()
                     time.sleep(0.3)
@@ -232,6 +245,7 @@ class Put(unittest.TestCase):
                     run.stdin.write(b"and an end")
                     run.stdin.close()
                     self.assertEqual(run.wait(timeout=30), 0)
+                    self.assertEqual(opened.read(), old or "")
                 self.assertEqual((os.listdir(folder), path.read_text()), (["a file"], "a beginning, and an end"))
 
     def test_a_file_that_cannot_be_written_stays(self):

@@ -217,7 +217,7 @@ class Bands(unittest.TestCase):
             file, certificate = pathlib.Path(folder, "file"), pathlib.Path(folder, "certificate")
             file.write_bytes(DOT)
             self.assertEqual(answer(program, ["prepare", file, "8192", "8192", certificate]), Answer(0, b"", b""))
-            for rows in (1, 2, 32, 64):
+            for rows in (1, 2, 32, 64, 100, 500, 1000, 3000, 8192):
                 words = ["play", file, certificate, "8192", "8192", "--bands", str(rows)]
                 within_rows = bare(program) + rows * WIDEST_ROW + MIB // 4
                 self.assertEqual(self.status_within(within_rows, program, words), 0, rows)

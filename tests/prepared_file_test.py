@@ -100,7 +100,7 @@ int statx(int folder, const char *path, int flags, unsigned mask, struct statx *
 }
 """
 
-# The same where each file has the same inode number, and lies on the device that its name has: the major number behind a comma.
+# The same where a file lies on the device that its name has, the major number behind a comma, and has the inode number behind a third comma, or 7.
 IS_ON_A_DEVICE = b"""
 #define _GNU_SOURCE
 #include <stdlib.h>
@@ -113,9 +113,10 @@ int statx(int folder, const char *path, int flags, unsigned mask, struct statx *
     int status = syscall(SYS_statx, folder, path, flags, mask, found);
     const char *comma = strchr(path, ',');
     if (status == 0 && comma != NULL) {
-        found->stx_ino = 7;
+        const char *minor = strchr(comma + 1, ',') + 1, *inode = strchr(minor, ',');
+        found->stx_ino = inode == NULL ? 7 : strtoull(inode + 1, NULL, 10);
         found->stx_dev_major = atoi(comma + 1);
-        found->stx_dev_minor = atoi(strchr(comma + 1, ',') + 1);
+        found->stx_dev_minor = atoi(minor);
     }
     return status;
 }
@@ -211,6 +212,20 @@ class PreparedFile(unittest.TestCase):
             self.out.chmod(0o600)
             self.assertEqual((self.out.read_bytes(), self.names()), (OLD, ["out"]))
 
+    @unittest.skipUnless(os.getuid() == 0, "only the superuser can run a program as another user")
+    @for_each_program
+    def test_a_file_of_another_user_is_replaced_if_that_user_may_write_it(self, program):
+        # The folder lets anyone rename a file: who may write the old one decides.
+        copy = self.copied(program)
+        self.folder.chmod(0o777)
+        for mode in (0o644, 0o755, 0o620, 0o606, 0o666):
+            may_write = mode & 0o002 != 0
+            self.out.unlink(missing_ok=True)
+            self.out.write_bytes(OLD)
+            self.out.chmod(mode)
+            self.assertEqual(self.prepare(copy, self.out, preexec_fn=as_nobody), DONE if may_write else CANNOT_WRITE, oct(mode))
+            self.assertEqual((self.out.read_bytes(), self.names()), (DOT_CERT if may_write else OLD, ["out"]))
+
     @for_each_program
     def test_a_name_that_cannot_be_looked_at_is_not_free(self, program):
         settings = self.preloading(IS_NOT_SEEN)
@@ -238,7 +253,9 @@ class PreparedFile(unittest.TestCase):
     @for_each_program
     def test_a_file_of_another_device_is_another_file(self, program):
         settings = self.preloading(IS_ON_A_DEVICE)
-        for others, wanted in [(["1,2", "01,2", "1,02"], SAME_FILE), (["2,2", "1,3", "2,1", "257,2"], DONE)]:
+        # Inode numbers have 64 bits: 4,294,967,303 is 7 and 2^32, and 1,099,511,627,783 is 7 and 2^40.
+        inodes = ["1,2,8", "1,2,4294967303", "1,2,1099511627783", "1,2,263", "1,2,0"]
+        for others, wanted in [(["1,2", "01,2", "1,02", "1,2,7"], SAME_FILE), (["2,2", "1,3", "2,1", "257,2", *inodes], DONE)]:
             for other in others:
                 file, out = self.folder / "file,1,2", self.folder / f"out,{other}"
                 file.write_bytes(DOT)
@@ -325,14 +342,18 @@ class PreparedFile(unittest.TestCase):
 
     @for_each_program
     def test_names_that_are_taken_are_left_as_they_are(self, program):
-        for count in (0, 1, 2, 9, 10, 11, 100, 1_000, 2_000):
-            taken = [f".metaplay-{nth}" for nth in range(count)]
-            for path in list(self.folder.iterdir()):
-                path.unlink()
-            for name in taken:
-                (self.folder / name).write_bytes(OLD)
-            self.assertEqual(self.prepare(program, self.out), DONE, count)
-            self.assertEqual(self.names(), sorted([*taken, "out"]))
+        # 10,000 names are tried.
+        for path in list(self.folder.iterdir()):
+            path.unlink()
+        taken = []
+        for count in (0, 1, 2, 9, 10, 11, 100, 1_000, 2_000, 9_999, 10_000):
+            for nth in range(len(taken), count):
+                taken.append(f".metaplay-{nth}")
+                (self.folder / taken[nth]).write_bytes(OLD)
+            self.out.unlink(missing_ok=True)
+            is_free = count < 10_000
+            self.assertEqual(self.prepare(program, self.out), DONE if is_free else CANNOT_WRITE, count)
+            self.assertEqual(self.names(), sorted([*taken, "out"] if is_free else taken))
             self.assertEqual({(self.folder / name).read_bytes() for name in taken}, {OLD} if taken else set())
 
     @for_each_program
