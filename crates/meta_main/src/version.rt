@@ -2,4 +2,4 @@
 
 /// The line that `--version` writes: the version, and the checksum of all sources but this one.
 pub(crate) const VERSION: &str =
-    "metaplay 1.1.0 (sources 768b932c37f9f76c9b17cdbea40a3a622e4047a5173b599945a0edf222e15de0)\n";
+    "metaplay 1.1.0 (sources bca96b9c3e86fad6f84dd3488c799ecebdf456da05e6d08686266e090db3c67a)\n";
