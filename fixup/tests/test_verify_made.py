@@ -70,6 +70,30 @@ class Made(unittest.TestCase):
         brush = emf_record(39, u32(4, 0, 0xFF, 0))
         self.refuse("itself uses the index", verdict_of([brush], [self.A], block_of(self.A)))
 
+    def test_index_used_later(self) -> None:
+        """The same behind the block, whose index the header then counts."""
+        original = emf_file([*TRANSPARENT, *font(4), self.A, *emf_script("pixel 1 1"), emf_record(39, u32(7, 0, 0, 0))])
+        fixed = converted(original)
+        later = original.replace(emf_record(39, u32(7, 0, 0, 0)), emf_record(39, u32(4, 0, 0, 0)))
+        changed = fixed.replace(emf_record(39, u32(7, 0, 0, 0)), emf_record(39, u32(4, 0, 0, 0)))
+        digests = [hashlib.sha256(data).hexdigest().encode() for data in (original, later)]
+        self.assertTrue(verify(original, fixed, True).holds)
+        self.refuse("itself uses the index", verify(later, changed.replace(*digests), True))
+
+    def test_unknown_states(self) -> None:
+        """A colour that no palette has, units of an unknown device, and a curve that ends anywhere."""
+        wrong = [emf_record(24, u32(0x01000007))]
+        self.refuse("another colour than the text's", verdict_of(wrong, [self.A], block_of(self.A)))
+        back = [*wrong, emf_record(24, u32(0))]
+        self.assertTrue(verdict_of(back, [self.A], block_of(self.A)).holds)
+        curve = emf_record(92, i32(0, 0, -1, -1, 1) + i16(20, 30) + b"\2\0\0\0")
+        verdict = verdict_of([UPDATE_POSITION, curve], [self.A], block_of(self.A))
+        self.refuse("where the text begins isn't known", verdict)
+        state = Reader(read(placeable_file([])))
+        for mode, is_mapped in ((2, False), (8, False), (1, True), (9, True)):
+            state.see(wmf_record(0x0103, u16(mode)))
+            self.assertEqual(state.state.is_mapped, is_mapped)
+
     def test_world(self) -> None:
         """A block must set a world aside."""
         turned = [world(0, 1, -1, 0, 50, 10)]
