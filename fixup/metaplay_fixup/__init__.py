@@ -6,7 +6,7 @@
 - numbers: `fixed`, `affine`, `singles`, `angles`, `curves`, `rounds`, `shapes`
 - strokes: `pens`, `dashes`, `caps`, `joins`, `stroke_shapes`
 - records and files: `records` with its tables `emf_kinds` and `wmf_kinds`, `reader`
-- the playing state: `objects`, `slots`, `worlds`, `viewports`, `extents`, `clips`, `paths`, `state`
+- the playing state: `objects`, `slots`, `worlds`, `viewports`, `extents`, `clips`, `paths`, `doubts`, `state`
 - bitmaps: `pictures`, `channels`, `compressed`, `bitmaps`, `blends`, `sources`
 - fonts: `faces` over FreeType, `fonts`, `composites`, `catalogue`, `families`, `adobe_symbol`, `choice`
 - outlines: `outlines`, `flattening`, `glyph_shapes`

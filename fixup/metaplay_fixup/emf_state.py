@@ -5,6 +5,7 @@ from __future__ import annotations
 from dataclasses import replace
 
 from .affine import Point
+from .doubts import Part, settled
 from .emf_session import EmfSession
 from .extents import scaled_extent
 from .faults import Fault, FaultName
@@ -89,6 +90,8 @@ def map_mode(session: EmfSession) -> None:
     mode = session.fields["mode"]
     if mode in (TEXT_MODE, ISOTROPIC, ANISOTROPIC):
         session.state.set_page(session.state.page.in_mode(mode))
+        if mode == TEXT_MODE:
+            session.state.doubts = settled(session.state.doubts, Part.MAP)
         session.keep()
         return
     if mode not in _METRIC_UNITS:
