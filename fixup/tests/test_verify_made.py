@@ -76,9 +76,9 @@ class Made(unittest.TestCase):
         fixed = converted(original)
         later = original.replace(emf_record(39, u32(7, 0, 0, 0)), emf_record(39, u32(4, 0, 0, 0)))
         changed = fixed.replace(emf_record(39, u32(7, 0, 0, 0)), emf_record(39, u32(4, 0, 0, 0)))
-        digests = [hashlib.sha256(data).hexdigest().encode() for data in (original, later)]
+        digest, new = (hashlib.sha256(data).hexdigest().encode() for data in (original, later))
         self.assertTrue(verify(original, fixed, True).holds)
-        self.refuse("itself uses the index", verify(later, changed.replace(*digests), True))
+        self.refuse("itself uses the index", verify(later, changed.replace(digest, new), True))
 
     def test_unknown_states(self) -> None:
         """A colour that no palette has, units of an unknown device, and a curve that ends anywhere."""
