@@ -11,8 +11,8 @@ from .oracle import NO_BOUNDS, emf_file, emf_record, emf_script, i16, i32, place
 from .oracle import wmf_script
 from .parts import number, places_of
 from .squares import Squares
-from .test_emf import map_to
-from .test_text_blocks import END, SETTINGS, TRANSPARENT, UPDATE_POSITION, brush, font, square, text
+from .emf_records import map_to
+from .text_records import END, SETTINGS, TRANSPARENT, UPDATE_POSITION, brush, font, square, text
 
 TEXT_ONLY = Options(text_only=True)
 NO_COLOUR = 0x01000007

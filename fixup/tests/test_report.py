@@ -16,8 +16,8 @@ from metaplay_fixup.version import VERSION
 from .command_case import PLAIN, CommandCase, text_file
 from .made_fonts import OTHER, A, MadeFont, write_font
 from .oracle import SAMPLES, emf_file, emf_record, emf_script, i16, i32, placeable_file, u32, wmf_record, wmf_script
-from .test_emf import world
-from .test_text_blocks import font, text
+from .emf_records import world
+from .text_records import font, text
 
 SCHEMA = json.loads((Path(__file__).resolve().parents[1] / "report.schema.json").read_text("utf-8"))
 VALIDATOR = jsonschema.Draft202012Validator(SCHEMA)

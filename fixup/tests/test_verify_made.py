@@ -12,8 +12,8 @@ from metaplay_verify.reading import Reader
 from .oracle import EMF_END, emf_file, emf_record, emf_script, i16, i32, placeable_file, u16, u32, wmf_record
 from .parts import places_of, records_of
 from .planted import converted, emf_comment, joined, mark
-from .test_emf import world
-from .test_text_blocks import UPDATE_POSITION, font, text
+from .emf_records import world
+from .text_records import UPDATE_POSITION, font, text
 
 TRANSPARENT = emf_script("back_mode 1")
 FUNCTIONS = [0x001E, 0x00F7, 0x0102, 0x0103, 0x0108, 0x0127, 0x012D, 0x012E, 0x0142, 0x01F0, 0x01F9, 0x0201, 0x0209]
