@@ -114,10 +114,11 @@ class EmfSession(Session):
             self.replace(Action.PATH)
 
     def finished_path(self) -> Path:
-        """The path for a record that uses it up. Raises Fault PathState if none is finished."""
-        path, self.path = self.path, None
+        """The path for a record that uses it up. Raises Fault PathState if none is finished; an open one stays open."""
+        path = self.path
         if path is None or path.is_open:
             raise Fault(FaultName.PathState)
+        self.path = None
         return path
 
     def give_up_path(self) -> None:

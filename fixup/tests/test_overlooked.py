@@ -123,6 +123,14 @@ class Emf(Overlooked):
             data = self.file(UPDATE_POSITION, record, *emf_script("line 20 30"), text("a", 0, 0))
             self.assertEqual(block_of(data)[:-1], self.block(square(20, 30, (20, 30))))
 
+    def test_open_path(self) -> None:
+        """What would paint an open path, or clip by it, leaves it open, and text isn't drawn in it."""
+        for kind, fields in ((62, NO_BOUNDS), (63, NO_BOUNDS), (64, NO_BOUNDS), (67, u32(5)), (59, b"")):
+            used = emf_record(kind, fields)
+            self.refuse(self.file(*emf_script("begin_path"), used, self.A), FaultName.PathState, 6)
+            data = self.file(*emf_script("begin_path"), used, *emf_script("end_path"), self.A)
+            self.assertEqual(block_of(data), self.block(square(20, 30, (20, 30))))
+
     def test_too_many_saved_states(self) -> None:
         """Of more states than 256 it isn't known which one comes back."""
         self.assertEqual(len(block_of(self.file(*[emf_record(33)] * 255, self.A))), 14)
