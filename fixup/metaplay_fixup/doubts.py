@@ -13,10 +13,14 @@ class Part(Enum):
     """A part of the state that text depends on."""
 
     MAP = "map"
+    WORLD = "world"
     POSITION = "position"
     TEXT_COLOUR = "text colour"
     BACKGROUND = "background"
 
+
+SET_IN_STEPS = {Part.MAP, Part.WORLD}
+"""Parts of which not every record without a fault sets all."""
 
 Doubts = Mapping[Part, Fault]
 """The parts that aren't known, each with the fault of the record that has set it."""
@@ -46,7 +50,7 @@ def settled(doubts: Doubts, part: Part) -> Doubts:
 
 def check_text(doubts: Doubts, align: int, background_mode: int, options: int) -> None:
     """Raises the fault of the record that has set a part which a text of these settings and options needs."""
-    needed = [Part.MAP, Part.TEXT_COLOUR]
+    needed = [Part.MAP, Part.WORLD, Part.TEXT_COLOUR]
     if align & UPDATE_POSITION:
         needed.append(Part.POSITION)
     if background_mode == OPAQUE or options & OPAQUE_BOX:

@@ -102,6 +102,7 @@ _MOVES: dict[int, Handler] = {
 }
 _PARTS = {
     **dict.fromkeys((17, 31, 32), Part.MAP),
+    **dict.fromkeys((35, 36), Part.WORLD),
     24: Part.TEXT_COLOUR,
     25: Part.BACKGROUND,
     **dict.fromkeys((*_MOVES, 41, 56, 92), Part.POSITION),

@@ -20,6 +20,9 @@ _METRIC_UNITS = {2: (1, 1), 3: (10, 1), 4: (100, 254), 5: (1000, 254), 6: (1440,
 
 _LARGEST_DEVICE = 65535
 
+# The mode of EMR_MODIFYWORLDTRANSFORM that takes another world whatever there was ([MS-EMF] 2.1.24).
+_SETS_WORLD = 4
+
 _COMMENT_AT, _EMF_PLUS = 12, b"EMF+"
 
 
@@ -169,6 +172,7 @@ def move(session: EmfSession) -> None:
 def set_world(session: EmfSession) -> None:
     """EMR_SETWORLDTRANSFORM."""
     _take_world(session, read_world(session.fields), False)
+    session.state.doubts = settled(session.state.doubts, Part.WORLD)
 
 
 def modify_world(session: EmfSession) -> None:
@@ -176,6 +180,8 @@ def modify_world(session: EmfSession) -> None:
     fields = session.fields
     is_reset = fields["mode"] == 1
     _take_world(session, modified(session.state.world, fields, fields["mode"]), is_reset)
+    if is_reset or fields["mode"] == _SETS_WORLD:
+        session.state.doubts = settled(session.state.doubts, Part.WORLD)
 
 
 def _take_world(session: EmfSession, world: World, is_reset: bool) -> None:

@@ -6,7 +6,7 @@ from collections.abc import Callable, Mapping
 from dataclasses import dataclass
 from typing import Generic, TypeVar
 
-from .doubts import Part, doubted, settled
+from .doubts import SET_IN_STEPS, Part, doubted, settled
 from .faults import Fault, FaultName
 from .output import Output
 from .session import Session
@@ -85,8 +85,8 @@ class Steps(Generic[SessionType]):
             if part is not None:
                 session.state.doubts = doubted(session.state.doubts, part, fault, session.number)
         else:
-            # What extents mean isn't known again before the map mode is that of text.
-            if part is not None and part is not Part.MAP:
+            # The handlers tell when a map is known again.
+            if part is not None and part not in SET_IN_STEPS:
                 session.state.doubts = settled(session.state.doubts, part)
 
     def _text_alone(self, session: SessionType, handler: Callable[[SessionType], None]) -> None:

@@ -154,7 +154,7 @@ class Reader:
         """[MS-EMF] 2.3.12.1. The products are rounded to singles; a world without an inverse isn't taken."""
         new, mode, old = numbers[:6], numbers[6], self.state.world
         pairs = {1: (IDENTITY, IDENTITY), 2: (new, old), 3: (old, new), 4: (new, IDENTITY)}
-        if mode not in pairs or not all(map(math.isfinite, new)):
+        if mode not in pairs or (mode != 1 and not all(map(math.isfinite, new))):
             return
         (a, b, c, d, e, f), (g, h, i, j, k, m) = pairs[int(mode)]
         product = (a * g + b * i, a * h + b * j, c * g + d * i, c * h + d * j, e * g + f * i + k, e * h + f * j + m)

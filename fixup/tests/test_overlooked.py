@@ -11,7 +11,7 @@ from .oracle import NO_BOUNDS, emf_file, emf_record, emf_script, i16, i32, place
 from .oracle import wmf_script
 from .parts import number, places_of
 from .squares import Squares
-from .emf_records import map_to
+from .emf_records import map_to, modify, world
 from .text_records import END, SETTINGS, TRANSPARENT, UPDATE_POSITION, brush, font, square, text
 
 TEXT_ONLY = Options(text_only=True)
@@ -102,6 +102,18 @@ class Emf(Overlooked):
         """An extent of 2^31 - 1 that doubles has more than 32 bits."""
         records = [*emf_script("map_mode 8"), emf_record(9, i32(0x7FFFFFFF, 1)), emf_record(32, i32(2, 1, 1, 1))]
         self.refuse(self.file(*records, self.A), FaultName.OffPlane, 6)
+
+    def test_large_worlds(self) -> None:
+        """Numbers of 2^40 and above aren't followed; a world is known again when all of it is set."""
+        large, twice, plain = world(2.0**40, 0, 0, 1, 0, 0), modify(2, 2, 0, 0, 2, 0, 0), modify(1, 0, 0, 0, 0, 0, 0)
+        self.refuse(self.file(large, self.A), FaultName.OffPlane, 4)
+        self.refuse(self.file(large, twice, emf_record(17, u32(1)), self.A), FaultName.OffPlane, 4)
+        block = self.block(square(20, 30, (20, 30)))
+        self.assertEqual(block_of(self.file(large, plain, self.A)), block)
+        self.assertEqual(block_of(self.file(large, world(1, 0, 0, 1, 0, 0), self.A)), block)
+        self.assertEqual(block_of(self.file(large, modify(4, 1, 0, 0, 1, 0, 0), self.A)), block)
+        for wrong in (world(float("inf"), 0, 0, 1, 0, 0), world(1, 1, 1, 1, 0, 0), modify(5, 2, 0, 0, 2, 0, 0)):
+            self.assertEqual(block_of(self.file(wrong, self.A)), block)
 
     def test_lines_that_move(self) -> None:
         """Lines and curves end at (20, 30), in what state they may be drawn doesn't matter; cut ones don't move."""

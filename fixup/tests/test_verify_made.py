@@ -12,7 +12,7 @@ from metaplay_verify.reading import Reader
 from .oracle import EMF_END, emf_file, emf_record, emf_script, i16, i32, placeable_file, u16, u32, wmf_record
 from .parts import places_of, records_of
 from .planted import converted, emf_comment, joined, mark
-from .emf_records import world
+from .emf_records import modify, world
 from .text_records import UPDATE_POSITION, font, text
 
 TRANSPARENT = emf_script("back_mode 1")
@@ -98,6 +98,15 @@ class Made(unittest.TestCase):
         """A block must set a world aside."""
         turned = [world(0, 1, -1, 0, 50, 10)]
         self.refuse("doesn't set the world aside", verdict_of(turned, [self.A], block_of(self.A)))
+
+    def test_reset_world(self) -> None:
+        """The identity takes no numbers, so it doesn't matter which ones its record has."""
+        infinite = float("inf")
+        reset = modify(1, infinite, 0, 0, 1, 0, 0)
+        self.assertTrue(verdict_of([world(2, 0, 0, 2, 0, 0), reset], [self.A], block_of(self.A)).holds)
+        for mode in (2, 3, 4):
+            unchanged = [reset, modify(mode, infinite, 0, 0, 1, 0, 0)]
+            self.assertTrue(verdict_of(unchanged, [self.A], block_of(self.A)).holds)
 
     def test_maps(self) -> None:
         """Under another map the text lies elsewhere."""
