@@ -202,7 +202,7 @@ def _add_fonts(parser: argparse.ArgumentParser) -> None:
 def _add_rules(parser: argparse.ArgumentParser) -> None:
     add = parser.add_argument
     _add_text_only(parser)
-    add("--strokes", action="store_true", help="replace strokes of dashed pens, and caps and joins, by polygons (off)")
+    add("--strokes", action="store_true", help="replace strokes whose dashes, caps or joins metaplay leaves out (off)")
     add("--alpha", choices=[AlphaRule.WHITE.value], help="lay bitmaps that let light through on white")
     add("--drop-emf-plus", action="store_true", help="leave out comments that hold EMF+")
     add("--bound", type=_side, default=LARGEST_BOUND, metavar="SIDE", help="the largest surface's side (8192)")
