@@ -40,13 +40,22 @@ def verify_file(asked: Verification, limits: Limits) -> None:
 def _verify(asked: Verification, said: int) -> None:
     """Writes what the second reader says to an open file. Raises Ending if the file is rejected or can't be read."""
     try:
-        verdict = verify(read_file(asked.original), read_file(asked.fixed), asked.text_only)
+        original, fixed = _read(asked.original, "the original"), _read(asked.fixed, "the fixed file")
+        verdict = verify(original, fixed, asked.text_only)
     except Unreadable as error:
         raise Ending(Status.FAILED, f"{CANNOT_READ} ({error})") from error
     text = "".join(f"{line}\n" for line in lines_of(verdict, asked.text_only))
     write_file(said, (text.encode("ascii", "backslashreplace"),))
     if not verdict.holds:
         raise Ending(Status.REJECTED, "")
+
+
+def _read(source: str, role: str) -> bytes:
+    """All bytes of a file. Raises Ending, which says what the file is, if it can't be read."""
+    try:
+        return read_file(source)
+    except Ending as ending:
+        raise Ending(ending.status, f"{ending.line} ({role})") from ending
 
 
 def _print(said: int) -> None:

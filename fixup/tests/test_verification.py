@@ -65,10 +65,10 @@ class Verify(CommandCase):
 
     def test_unreadable(self) -> None:
         """Status 3: no file, a folder, no metafile, a cut one, a name that can't be."""
-        unreadable = (Ran(3, "metaplay-fixup: cannot read\n"), "")
+        lines = [f"metaplay-fixup: cannot read ({role})\n" for role in ("the original", "the fixed file")]
         for name in (str(self.folder / "none"), str(self.fonts), "a\0b"):
-            self.assertEqual(self.verified(name, self.fixed), unreadable)
-            self.assertEqual(self.verified(self.original, name), unreadable)
+            self.assertEqual(self.verified(name, self.fixed), (Ran(3, lines[0]), ""))
+            self.assertEqual(self.verified(self.original, name), (Ran(3, lines[1]), ""))
         wrong, cut = self.file("text", b"text"), self.file("cut", self.fixed.read_bytes()[:-4])
         line = "metaplay-fixup: cannot read (the original: the file is no metafile)\n"
         self.assertEqual(self.verified(wrong, self.fixed), (Ran(3, line), ""))
