@@ -6,7 +6,7 @@
 - numbers: `fixed`, `affine`, `singles`, `angles`, `curves`, `rounds`, `shapes`
 - strokes: `pens`, `dashes`, `caps`, `joins`, `stroke_shapes`
 - records and files: `records` with its tables `emf_kinds` and `wmf_kinds`, `reader`
-- the playing state: `objects`, `slots`, `worlds`, `viewports`, `extents`, `clips`, `paths`, `state`
+- the playing state: `objects`, `slots`, `worlds`, `viewports`, `extents`, `clips`, `paths`, `doubts`, `state`
 - bitmaps: `pictures`, `channels`, `compressed`, `bitmaps`, `blends`, `sources`
 - fonts: `faces` over FreeType, `fonts`, `composites`, `catalogue`, `families`, `adobe_symbol`, `choice`
 - outlines: `outlines`, `flattening`, `glyph_shapes`
@@ -15,7 +15,7 @@
 - blocks: `text_blocks`, `emf_blocks`, `wmf_blocks`
 - what happens to each record: `session`, `steps`, and the modules that begin with `emf` and `wmf`
 - the command: `command`, `command_line`, `statuses`, `version`, `one_file`, `child` with its limits, `late_catalogue`,
-  `proved_check`, `report`, `whole_file`
+  `proved_check`, `report`, `whole_file`, and `verification`, which alone knows `metaplay_verify`
 
 No other module knows those of the blocks and of what happens to each record, but `convert`; and none knows the
 command's.

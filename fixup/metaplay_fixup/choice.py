@@ -58,8 +58,8 @@ class FontChooser:
     def choose(self, request: LogicalFont) -> ChosenFont:
         """The font for a face, by --map, by its own name, by the table, by --instead.
 
-        Raises Fault with MissingFont if there is none or it has no bold, with BadFont or EmbeddingNotAllowed if it
-        can't be used.
+        Raises Fault with MissingFont if there is none, with MissingBold if a bold face's family has no bold one, with
+        VerticalFace for vertical writing, and with BadFont or EmbeddingNotAllowed if the font can't be used.
         """
         if request not in self._chosen:
             self._chosen[request] = self._found(request)
@@ -76,7 +76,7 @@ class FontChooser:
             if files:
                 file = _file_of(files, style)
                 if file is None:
-                    raise Fault(FaultName.MissingFont, f"{request.face}, bold")
+                    raise Fault(FaultName.MissingBold, request.face)
                 return self._opened(file, style, candidate.choice)
         raise Fault(FaultName.MissingFont, request.face or "no face is named")
 
@@ -94,7 +94,7 @@ class FontChooser:
     def _candidates(self, request: LogicalFont) -> list[_Candidate]:
         face = request.face.lower()
         if face.startswith("@"):
-            raise Fault(FaultName.MissingFont, f"{request.face} is for vertical writing")
+            raise Fault(FaultName.VerticalFace, request.face)
         if face in self._maps:
             return [_Candidate(self._maps[face], Choice.MAP)]
         candidates = [_Candidate(face, Choice.FAMILY)]

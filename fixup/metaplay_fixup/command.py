@@ -4,7 +4,7 @@ from __future__ import annotations
 
 import os
 import sys
-from collections.abc import Iterator, Sequence
+from collections.abc import Iterator, Mapping, Sequence
 from contextlib import ExitStack, contextmanager
 from dataclasses import dataclass
 from pathlib import Path
@@ -15,6 +15,7 @@ from .command_line import (
     STANDARD_INPUT,
     CommandLine,
     Extra,
+    Verification,
     Work,
     WrongUsage,
     help_text,
@@ -26,7 +27,8 @@ from .one_file import Results, convert_file, empty_file
 from .proved_check import check_result
 from .statuses import CANNOT_READ, CANNOT_WRITE, PROGRAM, Ending, Status, out_of_memory, say
 from .version import VERSION
-from .whole_file import WholeFile, identity
+from .verification import verify_file
+from .whole_file import WholeFile, append_file, identity
 
 
 @dataclass(frozen=True, slots=True)
@@ -42,23 +44,39 @@ class Command:
             asked = read_command_line(words)
             if isinstance(asked, Extra):
                 return _print_extra(asked)
+            if isinstance(asked, Verification):
+                return self._verify(asked)
             _check_names(asked)
         except WrongUsage as wrong:
             say(wrong.text, usage_text() if wrong.shows_usage else "")
             return Status.WRONG_USAGE
         return self._run_all(asked)
 
-    def _run_all(self, asked: CommandLine) -> Status:
-        """Converts each file. The status is that of the worst."""
-        catalogue = LateCatalogue(asked.folders)
+    def _verify(self, asked: Verification) -> Status:
+        """Asks the second reader."""
         try:
-            _check_folders(asked)
-            if len(asked.works) > 1:
-                self._read_once(catalogue)
+            verify_file(asked, self.limits)
         except Ending as ending:
-            say(ending.line)
+            if ending.line:
+                say(ending.line)
             return ending.status
-        return max(self._run_one(work, asked, catalogue) for work in asked.works)
+        return Status.DONE
+
+    def _run_all(self, asked: CommandLine) -> Status:
+        """Converts each file, and writes the report if it is one of several. The status is that of the worst."""
+        catalogue, status = LateCatalogue(asked.folders), Status.DONE
+        with _empty("reports") as reports:
+            try:
+                _check_folders(asked)
+                if len(asked.works) > 1:
+                    self._read_once(catalogue)
+                status = max(self._run_one(work, asked, catalogue, reports) for work in asked.works)
+                if asked.is_folder and asked.report is not None:
+                    _put_in_place({asked.report: reports})
+            except Ending as ending:
+                say(ending.line)
+                return max(ending.status, status)
+        return status
 
     def _read_once(self, catalogue: LateCatalogue) -> None:
         """Reads the names of fonts here and not in the process of each file.
@@ -68,17 +86,21 @@ class Command:
         run_limited(catalogue.read, self.limits)
         catalogue.read()
 
-    def _run_one(self, work: Work, asked: CommandLine, catalogue: Catalogue) -> Status:
+    def _run_one(self, work: Work, asked: CommandLine, catalogue: Catalogue, reports: int) -> Status:
         try:
-            self._convert(work, asked, catalogue)
+            self._convert(work, asked, catalogue, reports)
         except Ending as ending:
             say(f"{work.source}: {ending.line}" if asked.is_folder else ending.line)
             return ending.status
         return Status.DONE
 
-    def _convert(self, work: Work, asked: CommandLine, catalogue: Catalogue) -> None:
-        """Converts a file in a process of its own, checks the result, and writes it. Raises Ending."""
-        with _results() as results:
+    def _convert(self, work: Work, asked: CommandLine, catalogue: Catalogue, reports: int) -> None:
+        """Converts a file in a process of its own, checks the result, and writes it. Raises Ending.
+
+        The report of one of several files goes to the end of `reports`.
+        """
+        with _empty("converted") as converted, _empty("report") as report:
+            results = Results(converted, report)
             try:
                 run_limited(lambda: convert_file(work.source, asked, catalogue, results), self.limits)
             except (OSError, MemoryError) as error:
@@ -86,28 +108,31 @@ class Command:
                 raise out_of_memory() from error
             if asked.check is not None:
                 check_result(self.checker, results.converted, asked.check)
-            _put_in_place(work.target, asked.report, results)
+            if asked.is_folder or asked.report is None:
+                _put_in_place({work.target: converted})
+                append_file(reports, report)
+            else:
+                _put_in_place({work.target: converted, asked.report: report})
 
 
 @contextmanager
-def _results() -> Iterator[Results]:
-    results = Results(empty_file("converted"), empty_file("report"))
+def _empty(name: str) -> Iterator[int]:
+    """An open file in memory, which is closed at the end."""
+    file = empty_file(name)
     try:
-        yield results
+        yield file
     finally:
-        os.close(results.converted)
-        os.close(results.report)
+        os.close(file)
 
 
-def _put_in_place(target: Path, report: Path | None, results: Results) -> None:
-    """Writes OUT, and the report if there is one. Neither is touched if one of them can't be written.
+def _put_in_place(wanted: Mapping[Path, int]) -> None:
+    """Writes open files to their paths. None is touched if one of them can't be written.
 
     Raises Ending if a file can't be written.
     """
-    wanted = [(target, results.converted)] + ([] if report is None else [(report, results.report)])
     try:
         with ExitStack() as stack:
-            files = [(stack.enter_context(WholeFile(path)), file) for path, file in wanted]
+            files = [(stack.enter_context(WholeFile(path)), file) for path, file in wanted.items()]
             for whole, file in files:
                 whole.write(file)
             for whole, _ in files:
@@ -136,6 +161,9 @@ def _check_folders(asked: CommandLine) -> None:
     target = asked.works[0].target.parent
     if asked.is_folder and not target.is_dir():
         raise Ending(Status.FAILED, f"{CANNOT_WRITE} (the folder {target})")
+    report = asked.report
+    if asked.is_folder and report is not None and (report.is_dir() or not report.parent.is_dir()):
+        raise Ending(Status.FAILED, f"{CANNOT_WRITE} (the report)")
 
 
 def _print_extra(extra: Extra) -> Status:

@@ -17,8 +17,10 @@ from .statuses import PROGRAM
 STANDARD_INPUT = "stdin"
 """The name of FILE that means standard input."""
 
+_VERIFY = "--verify"
 _USAGE = f"""{PROGRAM} FILE OUT --fonts DIR... [OPTIONS]
-       {PROGRAM} --out-dir DIR FILE... --fonts DIR... [OPTIONS]"""
+       {PROGRAM} --out-dir DIR FILE... --fonts DIR... [OPTIONS]
+       {PROGRAM} --verify ORIGINAL FILE [--text-only]"""
 _ABOUT = (
     "Replaces each record of a Windows metafile (WMF, EMF) that metaplay rejects by records that its print profile "
     "plays, and writes a file of the same format."
@@ -80,11 +82,22 @@ class CommandLine:
     check: Check | None
 
 
-def read_command_line(words: Sequence[str]) -> CommandLine | Extra:
+@dataclass(frozen=True, slots=True)
+class Verification:
+    """What the second reader is asked: about a fixed file and its original, one of which may be STANDARD_INPUT."""
+
+    original: str
+    fixed: str
+    text_only: bool
+
+
+def read_command_line(words: Sequence[str]) -> CommandLine | Verification | Extra:
     """What the words after the program's name ask for. Raises WrongUsage."""
-    parser = _parser()
     # What follows "--" is a name, even if it looks like an option.
     end = words.index("--") if "--" in words else len(words)
+    if _VERIFY in words[:end]:
+        return _verification(words)
+    parser = _parser()
     given = parser.parse_intermixed_args(list(words[:end]))
     given.names += words[end + 1 :]
     if given.help or given.version:
@@ -92,6 +105,8 @@ def read_command_line(words: Sequence[str]) -> CommandLine | Extra:
     works = _folder_works(given) if given.out_dir is not None else _single_work(given)
     if given.allow and given.check is None:
         raise WrongUsage("--allow needs --check")
+    if given.strokes and given.text_only:
+        raise WrongUsage("--text-only leaves strokes as they are")
     return CommandLine(
         works=works,
         is_folder=given.out_dir is not None,
@@ -99,11 +114,32 @@ def read_command_line(words: Sequence[str]) -> CommandLine | Extra:
         rules=FontRules(_maps(given.map), given.instead, tuple(given.fallback)),
         code_page=given.code_page,
         options=Options(
-            given.bound, AlphaRule(given.alpha or AlphaRule.REFUSE.value), given.text_only, given.drop_emf_plus
+            given.bound,
+            AlphaRule(given.alpha or AlphaRule.REFUSE.value),
+            given.text_only,
+            given.drop_emf_plus,
+            given.strokes,
         ),
         report=given.report,
         check=None if given.check is None else Check(Side(*given.check), tuple(dict.fromkeys(given.allow))),
     )
+
+
+def _verification(words: Sequence[str]) -> Verification | Extra:
+    """What words with --verify ask for, which no other option but --text-only goes with. Raises WrongUsage."""
+    parser = _Parser(prog=PROGRAM, usage=_USAGE, add_help=False, allow_abbrev=False)
+    _add_verify(parser)
+    _add_text_only(parser)
+    _add_extras(parser)
+    given, others = parser.parse_known_args(list(words))
+    if given.help or given.version:
+        return Extra.HELP if given.help else Extra.VERSION
+    if others:
+        raise WrongUsage(f"--verify doesn't go with {others[0]}", shows_usage=True)
+    original, fixed = given.verify
+    if original == fixed == STANDARD_INPUT:
+        raise WrongUsage("only one file can be stdin")
+    return Verification(original, fixed, given.text_only)
 
 
 def help_text() -> str:
@@ -128,14 +164,30 @@ def _parser() -> argparse.ArgumentParser:
     add = parser.add_argument
     add("names", nargs="*", metavar="FILE", help="the metafile, or the word stdin; then OUT, the file to write")
     add("--out-dir", type=Path, metavar="DIR", help="convert each FILE into a file of the same name in this folder")
-    add("--report", type=Path, metavar="FILE", help="write a line of JSON for each replaced record")
+    add("--report", type=Path, metavar="FILE", help="write a line of JSON for each replaced record and each file")
     _add_fonts(parser)
     _add_rules(parser)
     add("--check", nargs=2, type=_side, metavar=("W", "H"), help="reject a result that metaplay won't certify")
     add("--allow", action="append", default=[], choices=["held-deletion", "emf-plus"], help="with --check")
-    add("--version", "-V", action="store_true", help="print the version")
-    add("--help", "-h", action="store_true", help="print help")
+    _add_verify(parser)
+    _add_extras(parser)
     return parser
+
+
+def _add_verify(parser: argparse.ArgumentParser) -> None:
+    about = (
+        "print whether all but the marked places of FILE is the original's, and with --text-only these only draw text"
+    )
+    parser.add_argument(_VERIFY, nargs=2, metavar=("ORIGINAL", "FILE"), help=about)
+
+
+def _add_text_only(parser: argparse.ArgumentParser) -> None:
+    parser.add_argument("--text-only", action="store_true", help="replace text alone")
+
+
+def _add_extras(parser: argparse.ArgumentParser) -> None:
+    parser.add_argument("--version", "-V", action="store_true", help="print the version")
+    parser.add_argument("--help", "-h", action="store_true", help="print help")
 
 
 def _add_fonts(parser: argparse.ArgumentParser) -> None:
@@ -149,7 +201,8 @@ def _add_fonts(parser: argparse.ArgumentParser) -> None:
 
 def _add_rules(parser: argparse.ArgumentParser) -> None:
     add = parser.add_argument
-    add("--text-only", action="store_true", help="replace text alone")
+    _add_text_only(parser)
+    add("--strokes", action="store_true", help="replace strokes whose dashes, caps or joins metaplay leaves out (off)")
     add("--alpha", choices=[AlphaRule.WHITE.value], help="lay bitmaps that let light through on white")
     add("--drop-emf-plus", action="store_true", help="leave out comments that hold EMF+")
     add("--bound", type=_side, default=LARGEST_BOUND, metavar="SIDE", help="the largest surface's side (8192)")
@@ -196,8 +249,6 @@ def _folder_works(given: argparse.Namespace) -> tuple[Work, ...]:
     """A work for each file. Raises WrongUsage for what --out-dir can't do."""
     if not given.names:
         raise WrongUsage("--out-dir needs a FILE")
-    if given.report is not None:
-        raise WrongUsage("--report is for one FILE")
     works = tuple(Work(name, given.out_dir / Path(name).name) for name in given.names)
     seen: set[Path] = set()
     for work in works:

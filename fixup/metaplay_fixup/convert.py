@@ -45,6 +45,7 @@ def _converted(metafile: Metafile, options: Options, texts: TextLayer | None) ->
     if metafile.form is Form.EMF:
         emf = EmfSession(metafile, options, texts)
         EMF_STEPS.run(emf)
+        emf.check_extra()
         return emf
     wmf = WmfSession(metafile, options, texts)
     WMF_STEPS.run(wmf)

@@ -5,6 +5,7 @@ from __future__ import annotations
 from collections.abc import Callable
 
 from . import emf_blits, emf_drawings, emf_objects, emf_paths, emf_state, emf_text
+from .doubts import Part
 from .emf_session import EmfSession
 from .steps import Steps
 
@@ -92,5 +93,19 @@ _UNSUPPORTED |= {111, 112, 113, 118, 121, 122}
 
 _TEXTS = {83, 84, 108}
 _DRAWINGS = {2, 3, 4, 7, 8, 15, 42, 43, 44, 45, 46, 47, 76, 77, 81, 85, 86, 87, 90, 91, 114, 116}
+# Only EMR_ANGLEARC and EMR_POLYDRAW among the unsupported move the position.
+_MOVES: dict[int, Handler] = {
+    **dict.fromkeys((5, 6, 88, 89), emf_drawings.move_along),
+    27: emf_state.move,
+    54: emf_drawings.move_by_line,
+    55: emf_drawings.move_by_arc,
+}
+_PARTS = {
+    **dict.fromkeys((17, 31, 32), Part.MAP),
+    **dict.fromkeys((35, 36), Part.WORLD),
+    24: Part.TEXT_COLOUR,
+    25: Part.BACKGROUND,
+    **dict.fromkeys((*_MOVES, 41, 56, 92), Part.POSITION),
+}
 
-EMF_STEPS = Steps(HANDLERS, frozenset(_UNSUPPORTED), frozenset(_TEXTS), frozenset(_DRAWINGS))
+EMF_STEPS = Steps(HANDLERS, frozenset(_UNSUPPORTED), frozenset(_TEXTS), frozenset(_DRAWINGS), _MOVES, _PARTS)

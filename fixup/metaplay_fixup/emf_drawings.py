@@ -67,6 +67,18 @@ def line_to(session: EmfSession) -> None:
     _joined_lines(session, [session.fields.point()])
 
 
+def move_along(session: EmfSession) -> None:
+    """What EMR_POLYLINETO, EMR_POLYBEZIERTO and their kinds of 16 bits do to the position alone."""
+    points = session.kind_at_hand.point_lists(session.data)[0]
+    if points:
+        session.state.position = points[-1]
+
+
+def move_by_line(session: EmfSession) -> None:
+    """What EMR_LINETO does to the position alone."""
+    session.state.position = session.fields.point()
+
+
 def _joined_lines(session: EmfSession, points: Sequence[Point]) -> None:
     """Lines from the position, which moves to their end: kept where the world is the identity."""
     state, path = session.state, session.open_path
@@ -180,6 +192,11 @@ def arc_to(session: EmfSession) -> None:
     points = _arc_points(session)
     _joined_curve(session, state.device.apply(state.position), points)
     state.position = state.device.inverse_rounded(points[-1])
+
+
+def move_by_arc(session: EmfSession) -> None:
+    """What EMR_ARCTO does to the position alone."""
+    session.state.position = session.state.device.inverse_rounded(_arc_points(session)[-1])
 
 
 def rectangle(session: EmfSession) -> None:

@@ -21,12 +21,19 @@ from .state import ANISOTROPIC, ISOTROPIC, MOST_SAVED, TEXT_MODE, scaled_width
 from .text import TextLayer
 from .text_blocks import TextBlock
 
+_INDEX_AT = 8
+# The types that make an object ([MS-EMF] 2.3.7).
+_MAKERS = {38, 39, 49, 82, 93, 94, 95, 99, 122}
+
 Drawn = Callable[[Point], list[bytes]]
 """Gives the records of a drawing in a block whose origin is given in device units."""
 
 
 class EmfSession(Session):
-    """A conversion of an EMF file. `extra` is the index of an object that the file itself can't use."""
+    """A conversion of an EMF file. `extra` is the index of an object that the file itself can't use.
+
+    `extra_in_file` is the number of the first record that makes an object there all the same, or None.
+    """
 
     def __init__(self, metafile: Metafile, options: Options, texts: TextLayer | None) -> None:
         self.header: Fields = EMF.named("EMR_HEADER").read(metafile.records[0])
@@ -34,6 +41,7 @@ class EmfSession(Session):
         super().__init__(metafile, options, texts, EMF, Budget(self.grid.tolerance))
         self.extra = max(1, self.header["handles"])
         self.uses_extra = False
+        self.extra_in_file: int | None = None
         self.objects: dict[int, Object] = {}
         self.path: Path | None = None
         self.shared_text: TextBlock | None = None
@@ -77,6 +85,22 @@ class EmfSession(Session):
             raise Fault(FaultName.NoSuchHandle)
         self.objects[index] = new
 
+    def overlook(self) -> None:
+        """Goes on after a fault: a record that makes an object leaves none that is of interest at its index."""
+        if EMF.layout.number(self.data) in _MAKERS:
+            index = int.from_bytes(self.data[_INDEX_AT : _INDEX_AT + 4], "little")
+            self.objects.pop(index, None)
+            if index == self.extra and self.extra_in_file is None:
+                self.extra_in_file = self.number
+
+    def check_extra(self) -> None:
+        """Raises Fault NoSuchHandle if both blocks and the file use an index that only blocks can use.
+
+        Since the header counts one more, the file's object would no longer be overlooked.
+        """
+        if self.uses_extra and self.extra_in_file is not None:
+            raise Fault(FaultName.NoSuchHandle, "blocks need the index", self.extra_in_file)
+
     def keep_in_path(self) -> None:
         """Takes over a record that belongs to the path, as long as the path is plain; otherwise the record is left
         out.
@@ -90,10 +114,11 @@ class EmfSession(Session):
             self.replace(Action.PATH)
 
     def finished_path(self) -> Path:
-        """The path for a record that uses it up. Raises Fault PathState if none is finished."""
-        path, self.path = self.path, None
+        """The path for a record that uses it up. Raises Fault PathState if none is finished; an open one stays open."""
+        path = self.path
         if path is None or path.is_open:
             raise Fault(FaultName.PathState)
+        self.path = None
         return path
 
     def give_up_path(self) -> None:

@@ -5,6 +5,7 @@ from __future__ import annotations
 from dataclasses import replace
 
 from .affine import Point
+from .doubts import Part, settled
 from .emf_session import EmfSession
 from .extents import scaled_extent
 from .faults import Fault, FaultName
@@ -18,6 +19,9 @@ from .worlds import IDENTITY_WORLD, World, modified, read_world
 _METRIC_UNITS = {2: (1, 1), 3: (10, 1), 4: (100, 254), 5: (1000, 254), 6: (1440, 254)}
 
 _LARGEST_DEVICE = 65535
+
+# The mode of EMR_MODIFYWORLDTRANSFORM that takes another world whatever there was ([MS-EMF] 2.1.24).
+_SETS_WORLD = 4
 
 _COMMENT_AT, _EMF_PLUS = 12, b"EMF+"
 
@@ -89,6 +93,8 @@ def map_mode(session: EmfSession) -> None:
     mode = session.fields["mode"]
     if mode in (TEXT_MODE, ISOTROPIC, ANISOTROPIC):
         session.state.set_page(session.state.page.in_mode(mode))
+        if mode == TEXT_MODE:
+            session.state.doubts = settled(session.state.doubts, Part.MAP)
         session.keep()
         return
     if mode not in _METRIC_UNITS:
@@ -166,6 +172,7 @@ def move(session: EmfSession) -> None:
 def set_world(session: EmfSession) -> None:
     """EMR_SETWORLDTRANSFORM."""
     _take_world(session, read_world(session.fields), False)
+    session.state.doubts = settled(session.state.doubts, Part.WORLD)
 
 
 def modify_world(session: EmfSession) -> None:
@@ -173,6 +180,8 @@ def modify_world(session: EmfSession) -> None:
     fields = session.fields
     is_reset = fields["mode"] == 1
     _take_world(session, modified(session.state.world, fields, fields["mode"]), is_reset)
+    if is_reset or fields["mode"] == _SETS_WORLD:
+        session.state.doubts = settled(session.state.doubts, Part.WORLD)
 
 
 def _take_world(session: EmfSession, world: World, is_reset: bool) -> None:

@@ -5,6 +5,7 @@ from __future__ import annotations
 from collections.abc import Sequence
 
 from .affine import Point
+from .doubts import check_text
 from .emf_blocks import Lines, lines_record, origin_near
 from .emf_session import EmfSession
 from .fixed import FRACTION_BITS
@@ -85,6 +86,7 @@ def _replace_text(session: EmfSession, record: TextRecord) -> None:
     if session.texts is None:
         session.keep()
         return
+    check_text(state.doubts, state.align, state.background_mode, record.options)
     laid = session.texts.lay_out(record, state.font, state.text_settings(), state.page_to_device())
     if session.open_path is not None:
         _add_to_path(session, laid)
@@ -117,13 +119,16 @@ def _put_text(session: EmfSession, laid: LaidText, text: TextFills) -> None:
     action, box = Action.OUTLINES if laid.glyphs else Action.TEXT_BOX, bounds(points)
     if shared is not None and _fits(session, shared, text):
         polygons = [record for fill in text.fills for record in _polygons(session, fill, shared.origin)]
-        session.output.put_in(shared.entry, len(shared.entry.records) - _END_OF_BLOCK, polygons)
+        session.output.put_in(shared.entry, shared.end, polygons)
+        shared.end += len(polygons)
         shared.last = session.replace_text(action, [], box, laid.note)
         return
     origin = origin_near(points[0])
-    entry = session.replace_text(action, _block(session, text, origin), box, laid.note)
+    block = _block(session, text, origin)
+    entry = session.replace_text(action, block, box, laid.note)
     is_shared = text.clip is None and len(text.colours) == 1
-    session.shared_text = TextBlock(entry, entry, text.fills[0].colour, origin) if is_shared else None
+    end = len(block) - _END_OF_BLOCK
+    session.shared_text = TextBlock(entry, end, entry, text.fills[0].colour, origin) if is_shared else None
 
 
 def _open_block(session: EmfSession) -> TextBlock | None:

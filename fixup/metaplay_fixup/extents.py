@@ -6,11 +6,18 @@ from .affine import Point
 from .faults import Fault, FaultName
 from .records import Fields
 
+_LARGEST = 0x7FFFFFFF
+
 
 def scaled_extent(fields: Fields, extent: Point) -> Point:
-    """An extent times the quotients in a record's fields. Raises Fault ZeroExtent if a side or a denominator is 0."""
+    """An extent times the quotients in a record's fields.
+
+    Raises Fault ZeroExtent if a side or a denominator is 0, and OffPlane for a side of more than 32 bits.
+    """
     x = scaled_side(extent.x, fields["x_numerator"], fields["x_denominator"])
     y = scaled_side(extent.y, fields["y_numerator"], fields["y_denominator"])
+    if max(abs(x), abs(y)) > _LARGEST:
+        raise Fault(FaultName.OffPlane, "a scaled extent has more than 32 bits")
     return Point(x, y)
 
 

@@ -49,8 +49,9 @@ class FontLayer:
     def lay_out(self, record: TextRecord, font: LogicalFont, settings: TextSettings, page: PageToDevice) -> LaidText:
         """The contours of a text.
 
-        Raises Fault: GlyphIndexes, ComplexScript, MissingFont, MissingGlyph, EmbeddingNotAllowed, BadFont; OffPlane if
-        the font is too large; TooManyEdges if the text has too many characters or points. Contours may lie anywhere.
+        Raises Fault: GlyphIndexes, ComplexScript, MissingFont, MissingBold, VerticalFace, MissingGlyph,
+        EmbeddingNotAllowed, BadFont; OffPlane if the font is too large; TooManyEdges if the text has too many
+        characters or points. Contours may lie anywhere.
         """
         characters = self._characters(record, font)
         if _draws_nothing(characters.codes, record, font, settings):
@@ -90,6 +91,7 @@ class FontLayer:
 
     def _note(self, characters: Characters, font: LogicalFont, glyphs: list[Glyph]) -> Note:
         chosen = self._chooser.choose(font)
+        sources = [chosen, *(glyph.source for glyph in glyphs if glyph.index)]
         used = dict.fromkeys(glyph.source.font.file.family for glyph in glyphs if glyph.source.font is not chosen.font)
         return Note(
             face=font.face,
@@ -98,7 +100,7 @@ class FontLayer:
             text=_string(characters.codes),
             sha256=chosen.font.sha256,
             style=chosen.font.file.style,
-            made_slant=chosen.made_slant,
+            made_slant=any(source.made_slant for source in sources),
             code_page=characters.code_page,
             own_widths=characters.distances_x is None,
             fallbacks=tuple(used),

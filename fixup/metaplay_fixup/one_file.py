@@ -33,25 +33,26 @@ class Results:
 
 def convert_file(source: str, asked: CommandLine, catalogue: Catalogue, results: Results) -> None:
     """Converts a file. Raises Ending if it can't be read, is rejected, or the results are too long."""
-    original = _read(source)
+    original = read_file(source)
     chooser = FontChooser(catalogue, asked.rules)
     try:
         layer = FontLayer(chooser, chord_tolerance(original, asked.options), asked.code_page)
         converted = convert(original, asked.options, layer)
     except Fault as fault:
         raise Ending(Status.REJECTED, str(fault)) from fault
-    _write(results.converted, (converted.data,))
+    write_file(results.converted, (converted.data,))
     if asked.report is not None:
-        _write(results.report, report_lines(original, converted, chooser.opened()))
+        write_file(results.report, report_lines(source, original, converted, chooser.opened()))
 
 
-def _read(source: str) -> bytes:
+def read_file(source: str) -> bytes:
+    """All bytes of a file, or of standard input. Raises Ending if it can't be read, or is too long."""
     try:
         if source == STANDARD_INPUT:
             return _all_of(sys.stdin.buffer)
         with open(source, "rb") as stream:
             return _all_of(stream)
-    except (OSError, AttributeError) as error:
+    except (OSError, ValueError, AttributeError) as error:
         # There is no sys.stdin if standard input is closed.
         raise Ending(Status.FAILED, CANNOT_READ) from error
 
@@ -68,7 +69,8 @@ def _all_of(stream: BinaryIO) -> bytes:
     return b"".join(parts)
 
 
-def _write(file: int, parts: Iterable[bytes]) -> None:
+def write_file(file: int, parts: Iterable[bytes]) -> None:
+    """Writes parts to an open file. Raises Ending if they are longer than a file may be, or memory has no room."""
     try:
         with open(file, "wb", closefd=False) as stream:
             stream.writelines(parts)

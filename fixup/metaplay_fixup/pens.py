@@ -161,7 +161,7 @@ def read_miter_limit(word: int) -> Ratio | None:
     """A miter limit of a record, or None if it is below 1.
 
     The standard has a whole number there, but GDI writes an IEEE single. A word below 2^23 is taken as a whole number,
-    since as a single it would be nearly 0. Raises Fault BadValue if the single isn't finite or is too large.
+    since as a single it would be nearly 0. Raises Fault as `single_of` does.
     """
     limit = Ratio(word, 1) if word < _LEAST_SINGLE else single_of(word)
     return limit if limit.numerator >= limit.denominator else None

@@ -17,17 +17,20 @@ _FALLBACK = "fallback"
 Value = int | str | bool | None | Sequence["Value"] | dict[str, "Value"]
 
 
-def report_lines(original: bytes, converted: Converted, fonts: Sequence[Font]) -> Iterator[bytes]:
+def report_lines(source: str, original: bytes, converted: Converted, fonts: Sequence[Font]) -> Iterator[bytes]:
     """A line for each replaced record, in the order of the original, and a last one for the file.
 
-    `fonts` are those that were opened for the file; those that gave no glyph are left out.
+    `source` is the file's name, of which what isn't UTF-8 becomes question marks. `fonts` are those that were opened
+    for the file; those that gave no glyph are left out.
     """
+    name = source.encode("utf-8", "replace").decode("utf-8")
     for replacement in converted.replacements:
-        yield _line(_of_record(replacement))
+        yield _line({"file": name, **_of_record(replacement)})
     notes = [replacement.note for replacement in converted.replacements if replacement.note is not None]
     yield _line(
         {
             "converted": hashlib.sha256(converted.data).hexdigest(),
+            "file": name,
             "fonts": [entry for font in fonts for entry in _of_font(font, notes)],
             "original": hashlib.sha256(original).hexdigest(),
             "version": VERSION,

@@ -117,6 +117,10 @@ class Session(ABC):
         return False
 
     @abstractmethod
+    def overlook(self) -> None:
+        """Goes on after a fault of the record at hand, as other programs do, where only text is replaced."""
+
+    @abstractmethod
     def move_record(self) -> bytes:
         """The record that moves the position to where it is."""
 

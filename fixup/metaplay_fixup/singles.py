@@ -21,7 +21,7 @@ class Ratio(NamedTuple):
 def single_of(word: int) -> Ratio:
     """The number whose 32 bits are given.
 
-    Raises Fault BadValue if it isn't finite or its absolute value is 2^40 or more.
+    Raises Fault BadValue if it isn't finite, and OffPlane if its absolute value is 2^40 or more.
     """
     exponent = word >> 23 & 0xFF
     mantissa = word & 0x7FFFFF
@@ -31,7 +31,7 @@ def single_of(word: int) -> Ratio:
         mantissa |= 0x800000
     shift = max(exponent, 1) - 150
     if mantissa.bit_length() + shift > _GREATEST_EXPONENT:
-        raise Fault(FaultName.BadValue, "a transform has a number that is too large")
+        raise Fault(FaultName.OffPlane, "a transform has a number that is too large")
     signed = -mantissa if word >> 31 else mantissa
     return _lowest(signed, shift)
 
@@ -40,12 +40,12 @@ def nearest_single(value: Ratio) -> Ratio:
     """The single nearest to a ratio whose denominator is a power of two; a half goes to the even one.
 
     A product of transforms is rounded so, since the transform of a device context is kept in singles. Raises Fault
-    BadValue if it is 2^40 or more.
+    OffPlane if it is 2^40 or more.
     """
     size = abs(value.numerator)
     scale = value.denominator.bit_length() - 1
     if size.bit_length() - scale > _GREATEST_EXPONENT:
-        raise Fault(FaultName.BadValue, "a transform has a number that is too large")
+        raise Fault(FaultName.OffPlane, "a transform has a number that is too large")
     spare = max(size.bit_length() - _MANTISSA_BITS, scale + _LEAST_EXPONENT)
     if spare <= 0:
         return value

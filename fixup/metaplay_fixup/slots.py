@@ -22,12 +22,21 @@ class Slots:
 
     def add(self, new: Object | None) -> None:
         """Gives an object the lowest free index; None is an object of no interest. Raises Fault TableFull."""
-        (index,) = self.lowest_free(1)
+        self.lowest_free(1)
+        self._put(new)
+
+    def lose(self) -> None:
+        """Gives the lowest free index to an object of no interest, whatever number of objects there is."""
+        self._put(None)
+
+    def _put(self, new: Object | None) -> None:
         if self._freed:
-            heappop(self._freed)
+            index = heappop(self._freed)
         else:
+            index = self._next
             self._next += 1
         self._objects[index] = new
+        self.most = max(self.most, index + 1)
 
     def find(self, index: int) -> Object | None:
         """The object of an index, or None if there is none, or none of interest."""

@@ -7,6 +7,7 @@ from math import isqrt
 
 from .affine import Affine, Point
 from .clips import NO_CLIP, Clip
+from .doubts import Doubts
 from .faults import Fault, FaultName
 from .fixed import ONE
 from .objects import BLACK, BLACK_PEN, NO_PALETTE, SYSTEM_FONT, WHITE, Palette, Pen
@@ -56,9 +57,8 @@ class State:
     """A state. All values are immutable, so a saved state is a copy of the references.
 
     `output_position` is the position that the converted file's player has, or None if it isn't known. `clip` is what
-    was clipped since the clip was removed last, and `meta_clip` stays when it is removed. The last three are of WMF:
-    what its records scale the viewport by that they haven't set, the window that they set, and whether they set a
-    viewport.
+    was clipped since the clip was removed last, and `meta_clip` stays when it is removed. Three are of WMF: what its
+    records scale the viewport by that they haven't set, the window that they set, and whether they set a viewport.
     """
 
     page: PageMap = field(default_factory=PageMap)
@@ -82,6 +82,7 @@ class State:
     viewport_scale: ViewportScale = UNSCALED
     asked_window: Point = _UNITS
     has_own_viewport: bool = False
+    doubts: Doubts = field(default_factory=dict)
     device: Affine = field(default_factory=lambda: PageMap().affine())
 
     def set_page(self, page: PageMap) -> None:

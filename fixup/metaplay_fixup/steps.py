@@ -6,11 +6,16 @@ from collections.abc import Callable, Mapping
 from dataclasses import dataclass
 from typing import Generic, TypeVar
 
+from .doubts import SET_IN_STEPS, Part, doubted, settled
 from .faults import Fault, FaultName
 from .output import Output
 from .session import Session
 
 SessionType = TypeVar("SessionType", bound=Session)
+Handler = Callable[[SessionType], None]
+
+# What the saved states are after these faults isn't known, so they aren't overlooked.
+_NEVER_OVERLOOKED = {FaultName.NoSavedState, FaultName.DepthLimit}
 
 
 @dataclass(frozen=True, slots=True)
@@ -18,13 +23,16 @@ class Steps(Generic[SessionType]):
     """The handlers of a format's records by their numbers.
 
     Kinds in `unsupported` are neither played by the checker nor replaced. Kinds in `texts` are text. Kinds in
-    `drawings` change no state. All others are kept.
+    `drawings` change no state. `moves` are the handlers of those that only move the position, as far as the state
+    goes. `parts` says which part of the state a kind sets. All others are kept.
     """
 
-    handlers: Mapping[int, Callable[[SessionType], None]]
+    handlers: Mapping[int, Handler[SessionType]]
     unsupported: frozenset[int]
     texts: frozenset[int]
     drawings: frozenset[int]
+    moves: Mapping[int, Handler[SessionType]]
+    parts: Mapping[int, Part]
 
     def run(self, session: SessionType) -> None:
         """Takes all records of the session's file over, or replaces them. Raises Fault with the record's number."""
@@ -34,7 +42,7 @@ class Steps(Generic[SessionType]):
             try:
                 step(session)
             except Fault as fault:
-                raise Fault(fault.name, fault.detail, number) from fault
+                raise Fault(fault.name, fault.detail, number if fault.record is None else fault.record) from fault
 
     def _step(self, session: SessionType) -> None:
         """Takes over, or replaces, the record at hand."""
@@ -60,13 +68,26 @@ class Steps(Generic[SessionType]):
         output = session.output
         session.output = Output()
         try:
-            self._step(session)
-        except Fault as fault:
-            if fault.name is FaultName.NoSavedState:
-                raise
+            self._step_of_state(session, number)
         finally:
             session.output = output
         session.keep()
+
+    def _step_of_state(self, session: SessionType, number: int) -> None:
+        """Takes a record's change of the state. A fault is overlooked, but what isn't known then is noted."""
+        part = self.parts.get(number)
+        try:
+            self.moves.get(number, self._step)(session)
+        except Fault as fault:
+            if fault.name in _NEVER_OVERLOOKED:
+                raise
+            session.overlook()
+            if part is not None:
+                session.state.doubts = doubted(session.state.doubts, part, fault, session.number)
+        else:
+            # The handlers tell when a map is known again.
+            if part is not None and part not in SET_IN_STEPS:
+                session.state.doubts = settled(session.state.doubts, part)
 
     def _text_alone(self, session: SessionType, handler: Callable[[SessionType], None]) -> None:
         """Replaces text.

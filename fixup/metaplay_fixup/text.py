@@ -138,7 +138,7 @@ class Note:
     """What the report says of a text.
 
     `font` is the family, `style` its style, `sha256` the digest of its file in hexadecimal, all empty if no font was
-    opened. `made_slant`: the family has no italic, so its upright glyphs were slanted. `code_page` is the one that
+    opened. `made_slant`: a family has no italic, so upright glyphs of it were slanted. `code_page` is the one that
     bytes were read by, or None. `own_widths`: the record has no distances, so the font's widths were taken.
     `fallbacks` are the families that gave glyphs which the font hasn't. `permission` is the font's fsType
     ([OpenType] OS/2), or None if no font was opened.

@@ -43,10 +43,12 @@ class TextFills(NamedTuple):
 class TextBlock:
     """A block of text of one colour, without a clip, that more text may be put into.
 
-    `entry` has its records, and `last` is the newest entry whose text is in it; the origin is in device units.
+    `entry` has its records, of which the one at `end` restores the state; `last` is the newest entry whose text is in
+    it; the origin is in device units.
     """
 
     entry: Entry
+    end: int
     last: Entry
     colour: Colour
     origin: Point

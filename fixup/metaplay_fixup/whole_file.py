@@ -69,6 +69,12 @@ class WholeFile:
             self._new = None
 
 
+def append_file(file: int, other: int) -> None:
+    """Writes all of an open file, read from its begin, at the end of another."""
+    os.lseek(file, 0, os.SEEK_END)
+    _write_all(file, _chunks(other))
+
+
 def identity(path: Path) -> tuple[int, int] | str:
     """What is equal for names that lead to one file, also by another spelling or a link.
 

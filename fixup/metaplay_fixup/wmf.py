@@ -5,6 +5,7 @@ from __future__ import annotations
 from collections.abc import Callable
 
 from . import wmf_blits, wmf_drawings, wmf_state, wmf_text
+from .doubts import Part
 from .steps import Steps
 from .wmf_session import WmfSession
 
@@ -63,5 +64,14 @@ _UNSUPPORTED = {0x012A, 0x012B, 0x01F9, 0x0220, 0x0228, 0x0419, 0x0429, 0x0548, 
 
 _TEXTS = {0x0521, 0x0A32}
 _DRAWINGS = {0x0324, 0x0325, 0x0418, 0x041B, 0x041F, 0x0538, 0x061C, 0x0817, 0x081A, 0x0830, 0x0940, 0x0B41, 0x0F43}
+_PARTS = {
+    0x0103: Part.MAP,
+    0x0201: Part.BACKGROUND,
+    0x0209: Part.TEXT_COLOUR,
+    0x0213: Part.POSITION,
+    0x0214: Part.POSITION,
+    0x0410: Part.MAP,
+    0x0412: Part.MAP,
+}
 
-WMF_STEPS = Steps(HANDLERS, frozenset(_UNSUPPORTED), frozenset(_TEXTS), frozenset(_DRAWINGS))
+WMF_STEPS = Steps(HANDLERS, frozenset(_UNSUPPORTED), frozenset(_TEXTS), frozenset(_DRAWINGS), {}, _PARTS)

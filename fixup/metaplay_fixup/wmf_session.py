@@ -29,6 +29,9 @@ _PIXELS_OF_INCH = 96
 _PIXELS_OF_SIDE = 1024
 _PARTS_OF_PIXEL = 8
 _WIDEST = 0x7FFF
+_MOST_SLOTS = 0xFFFF
+# The functions that make an object ([MS-WMF] 2.3.4).
+_MAKERS = {0x00F7, 0x0142, 0x01F9, 0x02FA, 0x02FB, 0x02FC, 0x06FF}
 
 
 class WmfSession(Session):
@@ -57,16 +60,26 @@ class WmfSession(Session):
         return self.write_point("META_MOVETO", self.state.position)
 
     def file(self, records: list[bytes]) -> bytes:
-        """The file of these records, with counts and sizes in its header ([MS-WMF] 2.3.2.2)."""
+        """The file of these records, with counts and sizes in its header ([MS-WMF] 2.3.2.2).
+
+        Raises Fault TableFull if it can't count the objects.
+        """
         head = bytearray(self.metafile.head)
         at = len(head) - _HEADER_SIZE
         words = (_HEADER_SIZE + sum(map(len, records))) // 2
+        if self.slots.most > _MOST_SLOTS:
+            raise Fault(FaultName.TableFull, "the header can't count so many objects")
         objects = max(int.from_bytes(head[at + 10 : at + 12], "little"), self.slots.most)
         largest = max(int.from_bytes(head[at + 12 : at + 16], "little"), max(map(len, records)) // 2)
         head[at + 6 : at + 10] = words.to_bytes(4, "little")
         head[at + 10 : at + 12] = objects.to_bytes(2, "little")
         head[at + 12 : at + 16] = largest.to_bytes(4, "little")
         return bytes(head) + b"".join(records)
+
+    def overlook(self) -> None:
+        """Goes on after a fault: a record that makes an object takes an index even then ([MS-WMF] 3.1.4.1)."""
+        if WMF.layout.number(self.data) in _MAKERS:
+            self.slots.lose()
 
     def check_depth(self) -> None:
         """Raises Fault DepthLimit if a block can't save the state."""

@@ -7,6 +7,7 @@ from dataclasses import replace
 from .affine import Point
 from .bitmaps import plays_as_stored
 from .clips import Clip
+from .doubts import Part, settled
 from .extents import scaled_extent
 from .faults import Fault, FaultName
 from .objects import NO_PALETTE, Brush, Palette, Pen, logical_font, read_colour, read_palette
@@ -40,6 +41,7 @@ def map_mode(session: WmfSession) -> None:
     state.set_page(state.page.in_mode(mode))
     if mode == TEXT_MODE:
         state.viewport_scale, state.asked_window = UNSCALED, state.page.window_extent
+        state.doubts = settled(state.doubts, Part.MAP)
     session.keep()
 
 
@@ -79,8 +81,8 @@ def window_extent(session: WmfSession) -> None:
     if not session.is_scaled:
         session.keep()
     elif session.state.viewport_scale == UNSCALED:
-        session.state.asked_window = extent
         session.state.set_page(replace(session.state.page, window_extent=extent))
+        session.state.asked_window = extent
         session.keep()
     else:
         _ask_window(session, extent)
@@ -90,8 +92,8 @@ def _ask_window(session: WmfSession, asked: Point) -> None:
     """Replaces the record by the window that stands for one that was asked for and the viewport's scale."""
     state = session.state
     window = state.viewport_scale.window(asked)
-    state.asked_window = asked
     state.set_page(replace(state.page, window_extent=window))
+    state.asked_window = asked
     session.replace(Action.EXTENT, [session.write_point("META_SETWINDOWEXT", window)])
 
 
@@ -101,32 +103,40 @@ def viewport_extent(session: WmfSession) -> None:
     if not session.is_scaled:
         session.keep()
         return
-    state.has_own_viewport = True
-    if state.viewport_scale == UNSCALED:
-        state.set_page(replace(state.page, viewport_extent=session.fields.point()))
+    is_scaled, window = state.viewport_scale != UNSCALED, state.asked_window
+    state.set_page(replace(state.page, window_extent=window, viewport_extent=session.fields.point()))
+    state.viewport_scale, state.has_own_viewport = UNSCALED, True
+    if not is_scaled:
         session.keep()
         return
-    window = state.asked_window
-    state.viewport_scale = UNSCALED
-    state.set_page(replace(state.page, window_extent=window, viewport_extent=session.fields.point()))
     session.replace(Action.EXTENT, [session.data, session.write_point("META_SETWINDOWEXT", window)])
 
 
 def scale_window(session: WmfSession) -> None:
     """META_SCALEWINDOWEXT becomes META_SETWINDOWEXT."""
-    if session.is_scaled:
-        _ask_window(session, scaled_extent(session.fields, session.state.asked_window))
-    else:
+    if not session.is_scaled:
         session.replace(Action.EXTENT)
+        return
+    extent = scaled_extent(session.fields, session.state.asked_window)
+    if session.options.text_only:
+        session.state.set_page(replace(session.state.page, window_extent=extent))
+        session.state.asked_window = extent
+    else:
+        _ask_window(session, extent)
 
 
 def scale_viewport(session: WmfSession) -> None:
     """META_SCALEVIEWPORTEXT becomes META_SETVIEWPORTEXT, or a change of the window if the file hasn't set a
     viewport.
+
+    Where only text is replaced the record stays, and scales whatever viewport there is.
     """
     state = session.state
     if not session.is_scaled:
         session.replace(Action.EXTENT)
+    elif session.options.text_only:
+        extent = scaled_extent(session.fields, state.page.viewport_extent)
+        state.set_page(replace(state.page, viewport_extent=extent))
     elif state.has_own_viewport:
         extent = scaled_extent(session.fields, state.page.viewport_extent)
         state.set_page(replace(state.page, viewport_extent=extent))
@@ -257,21 +267,22 @@ def _with_colour(session: WmfSession, is_unread: bool) -> bytes:
 def create_bitmap_brush(session: WmfSession) -> None:
     """META_DIBCREATEPATTERNBRUSH. A bitmap that the checker doesn't read becomes one of 24 bits."""
     fields = session.fields
-    session.slots.add(Brush())
     usage = 0 if fields["style"] == _PATTERN else fields["usage"]
     dib = session.data[_BITMAP_AT:]
     if plays_as_stored(dib, usage):
         session.keep()
-        return
-    picture = read_packed(session, dib, usage)
-    record = session.write("META_DIBCREATEPATTERNBRUSH", _DIB_PATTERN, 0, rest=stored_packed(picture))
-    session.replace(Action.BITMAP, [record])
+    else:
+        picture = read_packed(session, dib, usage)
+        record = session.write("META_DIBCREATEPATTERNBRUSH", _DIB_PATTERN, 0, rest=stored_packed(picture))
+        session.replace(Action.BITMAP, [record])
+    session.slots.add(Brush())
 
 
 def create_palette(session: WmfSession) -> None:
     """META_CREATEPALETTE."""
-    session.slots.add(read_palette(session.data, _PALETTE_AT, session.fields["entries"]))
+    palette = read_palette(session.data, _PALETTE_AT, session.fields["entries"])
     session.keep()
+    session.slots.add(palette)
 
 
 def create_font(session: WmfSession) -> None:
@@ -279,5 +290,5 @@ def create_font(session: WmfSession) -> None:
     fields = session.fields
     name = session.data[_FACE_AT : _FACE_AT + _FACE_LENGTH].split(b"\0")[0]
     face = name.decode(_FACE_PAGES.get(fields["charset"], "cp1252"), "replace")
-    session.slots.add(logical_font(fields, face))
     session.keep()
+    session.slots.add(logical_font(fields, face))

@@ -56,13 +56,15 @@ def _sum_of_products(*pairs: tuple[Ratio, Ratio]) -> Ratio:
 
 
 def read_world(fields: Fields) -> World:
-    """The transform in a record's fields. Raises Fault BadValue for numbers that aren't finite or are too large."""
+    """The transform in a record's fields. Raises Fault BadValue or OffPlane as `single_of` does."""
     m11, m12, m21, m22, dx, dy = (single_of(fields[name]) for name in _NAMES)
     return World(m11, m12, m21, m22, dx, dy)
 
 
 def modified(world: World, fields: Fields, mode: int) -> World:
-    """The world after EMR_MODIFYWORLDTRANSFORM ([MS-EMF] 2.3.12.1). Raises Fault BadValue for an unknown mode."""
+    """The world after EMR_MODIFYWORLDTRANSFORM ([MS-EMF] 2.3.12.1). Raises Fault BadValue for an unknown mode,
+    and as `single_of` and `nearest_single` do.
+    """
     if mode == 1:
         return IDENTITY_WORLD
     if mode == 2:

@@ -6,6 +6,7 @@ import sys
 from collections.abc import Sequence
 
 from .files import LONGEST_FILE, Unreadable
+from .lines import lines_of
 from .verdict import verify
 
 USAGE = "usage: python3 -m metaplay_verify ORIGINAL FILE [--text-only]"
@@ -23,15 +24,9 @@ def main(words: Sequence[str]) -> int:
     except (OSError, ValueError, Unreadable) as error:
         print(f"can't read: {error}", file=sys.stderr)
         return 3
-    if not verdict.holds:
-        place = "" if verdict.record is None else f"record {verdict.record} of the file: "
-        print(f"doesn't hold: {place}{verdict.reason}")
-        return 1
-    for replaced in verdict.replaced:
-        print(f"record {replaced.record} was replaced: {replaced.kind}")
-    only = ", which only draw text" if text_only and verdict.places else ""
-    print(f"holds: {len(verdict.replaced)} records were replaced in {verdict.places} places{only}")
-    return 0
+    for line in lines_of(verdict, text_only):
+        print(line)
+    return 0 if verdict.holds else 1
 
 
 def _read(path: str) -> bytes:

@@ -18,6 +18,7 @@ from .texts import TEXTS, Text, text_of
 
 _NULL_PEN, _NULL_BRUSH = 0x80000008, 0x80000005
 _FINEST_PARTS, _FINEST_FACTOR = 4096, 256
+_USED_INDEX = "the original itself uses the index of a block's brush"
 # How far numbers with fractions may be off, in device units.
 _ROUNDING = 0.01
 
@@ -51,6 +52,8 @@ class _Blocks(Cursor):
             raise Refused("a place stands for other records than text", self.place.begin - 1)
         if self.reader.is_in_path:
             raise Refused("a place stands in an open path", self.place.begin - 1)
+        if not self.reader.state.is_mapped:
+            raise Refused("where the text lies isn't known", self.place.begin - 1)
         position = self.reader.state.position
         if self.reader.state.align & 1 and not all(map(math.isfinite, position)):
             raise Refused("where the text begins isn't known", self.place.begin - 1)
@@ -198,11 +201,15 @@ def check_blocks(original: Metafile, places: list[Place]) -> None:
     for place in places:
         for record in original.records[done : place.first]:
             _see(reader, record)
-        if handle in reader.beyond:
-            raise Refused("the original itself uses the index of a block's brush", place.begin - 1)
         blocks = _Blocks(place, reader, handle, parts)
         blocks.check()
+        if blocks.parts and handle in reader.beyond:
+            raise Refused(_USED_INDEX, place.begin - 1)
         done, parts = place.first + place.count, blocks.parts
+    for record in original.records[done:]:
+        _see(reader, record)
+    if parts and handle in reader.beyond:
+        raise Refused(_USED_INDEX)
 
 
 def _see(reader: Reader, record: bytes) -> None:

@@ -13,6 +13,7 @@ from .slots import MAKERS, Slots
 from .state import IDENTITY, Font, State
 
 _LARGEST = 1 << 31
+_UNKNOWN = -1
 _METRIC = {2: (1, 1), 3: (10, 1), 4: (100, 254), 5: (1000, 254), 6: (1440, 254)}
 
 
@@ -76,6 +77,8 @@ class Reader:
                 self._objects[index] = Font(height, width, turned, record[33] != 0, record[34] != 0)
             elif kind == 49 and len(record) >= 16:
                 self._objects[index] = _palette(record, 16, number(record, 14, 2))
+        elif kind in (56, 92):
+            self.move(math.inf, math.inf)
         elif kind in (5, 6, 88, 89) and number(record, 24):
             code, size = ("<hh", 4) if kind > 80 else ("<ii", 8)
             at = 28 + size * (number(record, 24) - 1)
@@ -112,12 +115,16 @@ class Reader:
         state = self.state
         if mode in (1, 7, 8):
             state.mode = mode
-            state.window, state.viewport = ((1, 1), (1, 1)) if mode == 1 else (state.window, state.viewport)
+            if mode == 1:
+                state.window, state.viewport, state.is_mapped = (1, 1), (1, 1), True
         elif mode in _METRIC and all(1 <= side <= 65535 for side in self._device):
             units, tenths = _METRIC[mode]
             width, height, wide, high = self._device
             state.mode = mode
             state.window, state.viewport = (10 * wide * units, 10 * high * units), (width * tenths, -height * tenths)
+        elif mode in _METRIC:
+            # Its units are those of a device that the file doesn't tell.
+            state.is_mapped = False
 
     def _set_extent(self, name: str, x: int, y: int) -> None:
         if self.state.mode in (7, 8) and x and y and max(abs(x), abs(y)) <= _LARGEST:
@@ -134,18 +141,20 @@ class Reader:
         self._set(name, (old[0] + x, old[1] + y))
 
     def _set_colour(self, name: str, reference: int) -> None:
-        """A COLORREF ([MS-WMF] 2.2.2.8); one that names no colour changes nothing."""
+        """A COLORREF ([MS-WMF] 2.2.2.8)."""
         kind, index, palette = reference >> 24, reference & 0xFFFF, self.state.palette
         if kind in (0, 2):
             self._set(name, reference & 0xFFFFFF)
         elif kind == 1 and index < len(palette):
             self._set(name, palette[index])
+        else:
+            self._set(name, _UNKNOWN)
 
     def _modify(self, *numbers: float) -> None:
         """[MS-EMF] 2.3.12.1. The products are rounded to singles; a world without an inverse isn't taken."""
         new, mode, old = numbers[:6], numbers[6], self.state.world
         pairs = {1: (IDENTITY, IDENTITY), 2: (new, old), 3: (old, new), 4: (new, IDENTITY)}
-        if mode not in pairs or not all(map(math.isfinite, new)):
+        if mode not in pairs or (mode != 1 and not all(map(math.isfinite, new))):
             return
         (a, b, c, d, e, f), (g, h, i, j, k, m) = pairs[int(mode)]
         product = (a * g + b * i, a * h + b * j, c * g + d * i, c * h + d * j, e * g + f * i + k, e * h + f * j + m)

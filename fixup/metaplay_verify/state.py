@@ -25,7 +25,9 @@ IDENTITY = (1.0, 0.0, 0.0, 1.0, 0.0, 0.0)
 
 @dataclass(slots=True)
 class State:
-    """A state. The position is a box on the page where it isn't known exactly. Colours have red in the lowest byte."""
+    """A state. The position is a box on the page where it isn't known exactly, and `is_mapped` tells whether the map
+    is known. Colours have red in the lowest byte; one below 0 isn't known.
+    """
 
     mode: int = 1
     window_origin: Pair = (0, 0)
@@ -42,6 +44,7 @@ class State:
     break_extra: int = 0
     font: Font = Font()
     palette: tuple[int, ...] = ()
+    is_mapped: bool = True
 
     def device(self, point: Pair) -> Pair:
         """Where a point of the page lies on the device."""

@@ -14,7 +14,7 @@ from metaplay_fixup.command import Command
 
 from .made_fonts import MadeFont, write_font
 from .oracle import emf_file, emf_script, placeable_file, wmf_script
-from .test_text_blocks import font, text
+from .text_records import font, text
 
 OLD = b"as it was"
 

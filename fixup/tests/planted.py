@@ -10,7 +10,7 @@ from metaplay_fixup.options import Options
 from .oracle import emf_file, emf_record, emf_script, i16, placeable_file, u16, u32, wmf_record, wmf_script
 from .parts import is_emf, number, records_of
 from .squares import Squares
-from .test_text_blocks import UPDATE_POSITION, font, text
+from .text_records import UPDATE_POSITION, font, text
 
 Edit = Callable[[list[bytes]], list[bytes]]
 

@@ -5,7 +5,9 @@ from __future__ import annotations
 from metaplay_fixup.affine import Contour, Point
 from metaplay_fixup.shapes import corners_of
 from metaplay_fixup.text import (
+    CLIPPED_BOX,
     OPAQUE,
+    OPAQUE_BOX,
     UPDATE_POSITION,
     Box,
     Choice,
@@ -18,6 +20,8 @@ from metaplay_fixup.text import (
 )
 
 BLANK = 0x20
+# A record that fills its box and clips its text by it has no other background.
+_BOTH = OPAQUE_BOX | CLIPPED_BOX
 
 
 class Squares:
@@ -40,7 +44,8 @@ class Squares:
         line = Box(record.reference.x, y + size, x, y + size + size // 10)
         lines = [self._box(line, page)] if font.underline else []
         whole = Box(record.reference.x, y, x, y + size)
-        background = self._box(whole, page) if settings.background_mode == OPAQUE else None
+        has_own = record.options & _BOTH == _BOTH
+        background = self._box(whole, page) if settings.background_mode == OPAQUE and not has_own else None
         position = Point(x, y) if settings.align & UPDATE_POSITION else None
         note = Note(font.face, "Squares", Choice.FAMILY, "".join(map(chr, record.codes)), "ab" * 32)
         return LaidText(glyphs, lines, background, position, note)

@@ -25,6 +25,7 @@ EXPECTED = {
     FaultName.GlyphIndexes,
     FaultName.ComplexScript,
     FaultName.MissingFont,
+    FaultName.VerticalFace,
     FaultName.MissingGlyph,
     FaultName.ClipShape,
 }

@@ -101,7 +101,16 @@ class Choices(MadeFamilies):
         self.assertEqual(self.choose(face("Slanted")), ("Slanted", "Italic", Choice.FAMILY, False))
 
     def test_a_missing_bold_is_rejected(self) -> None:
-        self.assert_missing(face("Nimbus Sans", weight=700), "MissingFont (Nimbus Sans, bold)")
+        self.assert_missing(face("Nimbus Sans", weight=700), "MissingBold (Nimbus Sans)")
+        self.assert_missing(face("Nimbus Sans", weight=551, italic=True), "MissingBold (Nimbus Sans)")
+
+    def test_bold_by_another_rule(self) -> None:
+        """A map, and --instead, must lead to a family with a bold one too."""
+        bold = face("Verdana", weight=700)
+        for rules in (FontRules(maps={"Verdana": "Plain"}), FontRules(instead="Plain")):
+            self.assertEqual(self.choose(bold, rules)[:2], ("Plain", "Bold"))
+        for rules in (FontRules(maps={"Verdana": "Nimbus Sans"}), FontRules(instead="Nimbus Sans")):
+            self.assert_missing(bold, "MissingBold (Verdana)", rules)
 
     def test_a_missing_slant_is_made(self) -> None:
         self.assertEqual(self.choose(face("Plain", italic=True)), ("Plain", "Regular", Choice.FAMILY, True))
@@ -140,7 +149,8 @@ class Choices(MadeFamilies):
 
     def test_vertical_faces(self) -> None:
         rules = FontRules(instead="Plain")
-        self.assert_missing(face("@MS Gothic"), "MissingFont (@MS Gothic is for vertical writing)", rules)
+        self.assert_missing(face("@MS Gothic"), "VerticalFace (@MS Gothic)", rules)
+        self.assert_missing(face("@Nowhere"), "VerticalFace (@Nowhere)", FontRules(maps={"@Nowhere": "Plain"}))
 
     def test_no_face(self) -> None:
         self.assert_missing(face(""), "MissingFont (no face is named)")
@@ -202,6 +212,13 @@ class Fallbacks(MadeFamilies):
         left = 100 << 20
         self.assertEqual([point.x for point in laid.glyphs[0]][:2], [left, left + 11144000])
         self.assertTrue(laid.note.made_slant)
+
+    def test_a_made_slant_of_a_fallback(self) -> None:
+        """The family has an italic, but the one that stands in for a glyph hasn't."""
+        layer = FontLayer(FontChooser(self.catalogue, FontRules(fallbacks=("Greek",))), TOLERANCE)
+        case = Case().with_font(face="Liberation Sans", italic=True)
+        for text, is_slanted in (("A", False), ("A\u0391", True)):
+            self.assertEqual(lay(layer, case.of(text)).note.made_slant, is_slanted)
 
 
 def face(name: str, weight: int = 400, italic: bool = False, charset: int = 0) -> LogicalFont:

@@ -86,6 +86,7 @@ class Rejected(CommandCase):
 
     def test_faults(self) -> None:
         self.assert_rejected(text_file("A", "Nowhere"), "MissingFont (Nowhere) at record 4")
+        self.assert_rejected(text_file("A", "@Square"), "VerticalFace (@Square) at record 4")
         self.assert_rejected(text_file("C"), "MissingGlyph (U+0043 in Squares) at record 4")
         self.assert_rejected(b"x" * 100, "NotMetafile")
         self.assert_rejected(b"", "NotMetafile")

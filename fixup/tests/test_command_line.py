@@ -4,7 +4,16 @@ import unittest
 from pathlib import Path
 
 from metaplay_fixup.choice import FontRules
-from metaplay_fixup.command_line import Check, CommandLine, Extra, Side, Work, WrongUsage, read_command_line
+from metaplay_fixup.command_line import (
+    Check,
+    CommandLine,
+    Extra,
+    Side,
+    Verification,
+    Work,
+    WrongUsage,
+    read_command_line,
+)
 from metaplay_fixup.options import AlphaRule, Options
 
 
@@ -45,6 +54,20 @@ class Words(unittest.TestCase):
         self.assertEqual(asked.works, (Work("x/a.wmf", Path("d/a.wmf")), Work("b.wmf", Path("d/b.wmf"))))
         self.assertTrue(asked.is_folder)
 
+    def test_report_of_a_folder(self) -> None:
+        self.assertEqual(self.read("--out-dir d a b --report r").report, Path("r"))
+
+    def test_strokes(self) -> None:
+        """Off by default."""
+        self.assertFalse(self.read("a b").options.strokes)
+        self.assertEqual(self.read("a b --strokes").options, Options(strokes=True))
+
+    def test_verify(self) -> None:
+        for line in ("--verify a stdin", "--text-only --verify a stdin", "--verify a stdin --text-only"):
+            asked = read_command_line(line.split())
+            self.assertEqual(asked, Verification("a", "stdin", "--text-only" in line))
+        self.assertEqual(self.read("-- --verify b").works, (Work("--verify", Path("b")),))
+
     def test_names_like_options(self) -> None:
         self.assertEqual(self.read("-- -a --b").works, (Work("-a", Path("--b")),))
 
@@ -54,6 +77,8 @@ class Words(unittest.TestCase):
             ("-h a", Extra.HELP),
             ("--version", Extra.VERSION),
             ("-V", Extra.VERSION),
+            ("--verify a b --help", Extra.HELP),
+            ("--version --verify a b", Extra.VERSION),
         ):
             self.assertIs(read_command_line(line.split()), extra)
 
@@ -97,7 +122,38 @@ class WrongWords(unittest.TestCase):
         self.assert_wrong("--out-dir d x/a.wmf y/a.wmf", "two files have the name a.wmf")
         self.assert_wrong("--out-dir d stdin", "has no name")
         self.assert_wrong("--out-dir d /", "has no name")
-        self.assert_wrong("--out-dir d a --report r", "--report is for one FILE")
+
+    def test_strokes(self) -> None:
+        """Text alone leaves strokes as they are."""
+        self.assert_wrong("a b --strokes --text-only", "--text-only leaves strokes")
+
+    def test_verify(self) -> None:
+        """--verify goes with --text-only alone."""
+        for line in ("--verify", "--verify a", "--verify=a b", "a --verify b", "--verify --text-only a"):
+            self.assert_wrong(line, "expected 2 arguments")
+        others = [
+            "c",
+            "--strokes",
+            "--fonts f",
+            "--report r",
+            "--check 1 1",
+            "--out-dir d",
+            "--bound 8192",
+            "--instead I",
+        ]
+        others += [
+            "--alpha white",
+            "--drop-emf-plus",
+            "--allow emf-plus",
+            "--map A=B",
+            "--fallback F",
+            "--code-page 932",
+        ]
+        for other in [*others, "-- c"]:
+            self.assert_wrong(f"--verify a b {other}", "--verify doesn't go with")
+            if not other.startswith("-- "):
+                self.assert_wrong(f"{other} --verify a b", "--verify doesn't go with")
+        self.assert_wrong("--verify stdin stdin", "only one file can be stdin")
 
 
 if __name__ == "__main__":

@@ -102,12 +102,15 @@ class Singles(unittest.TestCase):
 
     def test_faults(self) -> None:
         """Numbers that aren't finite, or are 2^40 or more, are rejected."""
-        for word in (word_of(float("inf")), word_of(float("nan")), word_of(2.0**40), word_of(-(2.0**127))):
+        values = {float("inf"): FaultName.BadValue, float("nan"): FaultName.BadValue}
+        values.update({2.0**40: FaultName.OffPlane, -(2.0**127): FaultName.OffPlane})
+        for value, name in values.items():
             with self.assertRaises(Fault) as raised:
-                single_of(word)
-            self.assertEqual(raised.exception.name, FaultName.BadValue)
-        with self.assertRaises(Fault):
+                single_of(word_of(value))
+            self.assertEqual(raised.exception.name, name)
+        with self.assertRaises(Fault) as raised:
             nearest_single(Ratio(1 << 40, 1))
+        self.assertEqual(raised.exception.name, FaultName.OffPlane)
 
 
 if __name__ == "__main__":

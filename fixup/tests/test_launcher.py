@@ -46,7 +46,7 @@ class Launcher(CommandCase):
         status, text, error = self.ran("--help")
         self.assertEqual((status, error), (2, b""))
         options = "--fonts --map --instead --fallback --code-page --text-only --alpha --drop-emf-plus --bound"
-        for option in f"{options} --report --check --allow --out-dir --version".split():
+        for option in f"{options} --strokes --report --check --allow --out-dir --verify --version".split():
             self.assertIn(option.encode(), text)
 
     def test_full_output(self) -> None:

@@ -31,8 +31,8 @@ from .oracle import (
 )
 from .parts import is_emf, places_of, records_of
 from .squares import Squares
-from .test_emf import modify, world
-from .test_text_blocks import UPDATE_POSITION, font, text
+from .emf_records import modify, world
+from .text_records import UPDATE_POSITION, font, text
 
 PACKAGES = Path(__file__).resolve().parents[1]
 

@@ -64,6 +64,24 @@ class Folder(CommandCase):
         ran = self.run_command(self.file("a.wmf", PLAIN), "--out-dir", target)
         self.assertEqual(ran, Ran(3, f"metaplay-fixup: cannot write (the folder {target})\n"))
 
+    def test_report_that_cannot_be_written(self) -> None:
+        """A folder, and a file in a folder that isn't there: no file is converted. A device that is full: all are."""
+        source = self.file("a.wmf", PLAIN)
+        for wrong in (self.fonts, self.folder / "none/report"):
+            ran = self.run_command(source, "--out-dir", self.target, "--report", wrong)
+            self.assertEqual(ran, Ran(3, "metaplay-fixup: cannot write (the report)\n"))
+        self.assertEqual(list(self.target.iterdir()), [])
+        ran = self.run_command(source, "--out-dir", self.target, "--report", "/dev/full")
+        self.assertEqual(ran, Ran(3, "metaplay-fixup: cannot write\n"))
+        self.assertEqual((self.target / "a.wmf").read_bytes(), PLAIN)
+
+    def test_report_is_another_file(self) -> None:
+        """The report can't be one of the files, nor one that is written."""
+        source = self.file("a.wmf", PLAIN)
+        for report in (source, self.target / "a.wmf"):
+            ran = self.run_command(source, "--out-dir", self.target, "--report", report)
+            self.assertEqual(ran, Ran(2, "metaplay-fixup: the report is FILE or OUT\n"))
+
     def test_names(self) -> None:
         """Files of one name, a file in the folder itself, and two names in the folder that lead to one file."""
         one, other = self.file("a.wmf", PLAIN), self.file("b.wmf", PLAIN)

@@ -23,7 +23,7 @@ from .oracle import (
     wmf_record,
     wmf_script,
 )
-from .test_emf import singles, world
+from .emf_records import singles, world
 
 SIDE = 50
 # A pixel and a half, 3 units, of the shorter half axis of the ellipses.

@@ -2,6 +2,7 @@
 
 import hashlib
 import json
+import os
 import unittest
 from pathlib import Path
 from typing import Any
@@ -15,8 +16,8 @@ from metaplay_fixup.version import VERSION
 from .command_case import PLAIN, CommandCase, text_file
 from .made_fonts import OTHER, A, MadeFont, write_font
 from .oracle import SAMPLES, emf_file, emf_record, emf_script, i16, i32, placeable_file, u32, wmf_record, wmf_script
-from .test_emf import world
-from .test_text_blocks import font, text
+from .emf_records import world
+from .text_records import font, text
 
 SCHEMA = json.loads((Path(__file__).resolve().parents[1] / "report.schema.json").read_text("utf-8"))
 VALIDATOR = jsonschema.Draft202012Validator(SCHEMA)
@@ -34,11 +35,20 @@ def sha256(data: bytes) -> str:
 class Reports(CommandCase):
     """Reports of files, each line of which the schema allows."""
 
+    @property
+    def name(self) -> str:
+        """The name of the file that is converted."""
+        return str(self.folder / "a")
+
     def report(self, data: bytes, *words: str) -> list[dict[str, Any]]:
         """The lines of the report of a file that is converted."""
         source, report = self.file("a", data), self.folder / "report"
         ran = self.run_command(source, self.out, "--fonts", self.fonts, "--report", report, *words)
         self.assertEqual((ran.status, ran.error), (0, ""))
+        return self.lines_of(report)
+
+    def lines_of(self, report: Path) -> list[dict[str, Any]]:
+        """The lines of a report."""
         lines = report.read_text("ascii").splitlines(keepends=True)
         values: list[dict[str, Any]] = [json.loads(line) for line in lines]
         for line, value in zip(lines, values):
@@ -49,7 +59,8 @@ class Reports(CommandCase):
     def test_nothing_replaced(self) -> None:
         digest = sha256(PLAIN)
         self.assertEqual(
-            self.report(PLAIN), [{"converted": digest, "fonts": [], "original": digest, "version": VERSION}]
+            self.report(PLAIN),
+            [{"converted": digest, "file": self.name, "fonts": [], "original": digest, "version": VERSION}],
         )
 
     def test_text(self) -> None:
@@ -63,6 +74,7 @@ class Reports(CommandCase):
             "code_page": None,
             "face": "Squares",
             "fallbacks": [],
+            "file": self.name,
             "font": "Squares",
             "kind": "EMR_EXTTEXTOUTW",
             "made_slant": False,
@@ -80,7 +92,14 @@ class Reports(CommandCase):
             "style": "Regular",
         }
         result = sha256(self.out.read_bytes())
-        self.assertEqual(last, {"converted": result, "fonts": [used], "original": sha256(data), "version": VERSION})
+        expected = {
+            "converted": result,
+            "file": self.name,
+            "fonts": [used],
+            "original": sha256(data),
+            "version": VERSION,
+        }
+        self.assertEqual(last, expected)
 
     def test_blank_text(self) -> None:
         """No font was chosen, and nothing is covered."""
@@ -95,8 +114,8 @@ class Reports(CommandCase):
         data = emf_file([world(2, 0, 0, 2, 0, 0), emf_record(42, i32(1, 1, 9, 9))])
         *records, _ = self.report(data)
         expected = [
-            {**NOT_TEXT, "action": "world", "kind": "EMR_SETWORLDTRANSFORM", "record": 1},
-            {**NOT_TEXT, "action": "curve", "kind": "EMR_ELLIPSE", "record": 2},
+            {**NOT_TEXT, "action": "world", "file": self.name, "kind": "EMR_SETWORLDTRANSFORM", "record": 1},
+            {**NOT_TEXT, "action": "curve", "file": self.name, "kind": "EMR_ELLIPSE", "record": 2},
         ]
         self.assertEqual(records, expected)
 
@@ -136,6 +155,47 @@ class Reports(CommandCase):
         record, _ = self.report(data, "--map=Squares=Foreign")
         self.assertEqual(record["text"], 'é"é')
 
+    def test_strokes(self) -> None:
+        """A line with a flat end of 4 units: replaced only if that is asked for."""
+        pen = [emf_record(95, u32(1, 0, 0, 0, 0, 0x10200, 4, 0, 0, 0, 0)), emf_record(37, u32(1))]
+        data = emf_file([*pen, *emf_script("polyline 10 10 30 10")])
+        self.assertEqual(len(self.report(data)), 1)
+        self.assertEqual(self.out.read_bytes(), data)
+        record, _ = self.report(data, "--strokes")
+        expected = {**NOT_TEXT, "action": "stroke", "file": self.name, "kind": "EMR_POLYLINE", "record": 3}
+        self.assertEqual(record, expected)
+
+    def test_folder(self) -> None:
+        """One report has the lines of all files that are written, in the order of the command line."""
+        target, report = self.folder / "target", self.folder / "report"
+        target.mkdir()
+        files = [self.file("b.emf", text_file("A")), self.file("a.wmf", PLAIN), self.file("d.emf", text_file("AB"))]
+        bad, words = self.file("c.emf", text_file("C")), ("--out-dir", target, "--fonts", self.fonts)
+        ran = self.run_command(*files[:2], bad, files[2], *words, "--report", report)
+        self.assertEqual(ran.status, 1)
+        lines = self.lines_of(report)
+        wanted = [str(file) for file in (files[0], files[0], files[1], files[2], files[2])]
+        self.assertEqual([line["file"] for line in lines], wanted)
+        self.assertEqual([line.get("text") for line in lines], ["A", None, None, "AB", None])
+        digests = [line["converted"] for line in lines if "converted" in line]
+        self.assertEqual(digests, [sha256((target / file.name).read_bytes()) for file in files])
+
+    def test_folder_of_one_file(self) -> None:
+        """A call with one file has the lines that the file has alone."""
+        (target := self.folder / "target").mkdir()
+        alone, report = self.report(text_file("A")), self.folder / "report"
+        words = ("--out-dir", target, "--fonts", self.fonts, "--report", report)
+        self.assertEqual(self.run_command(self.folder / "a", *words).status, 0)
+        self.assertEqual(self.lines_of(report), alone)
+
+    def test_name_in_another_encoding(self) -> None:
+        """Bytes that aren't UTF-8 become question marks."""
+        source, report = os.fsdecode(os.fsencode(self.folder) + b"/\xff.wmf"), self.folder / "report"
+        Path(source).write_bytes(PLAIN)
+        self.assertEqual(self.run_command(source, self.out, "--report", report).status, 0)
+        (line,) = self.lines_of(report)
+        self.assertEqual(line["file"], f"{self.folder}/?.wmf")
+
     def test_samples(self) -> None:
         for path in sorted(SAMPLES.glob("*.[ew]mf")):
             if path.stem not in ("nil",):
@@ -156,7 +216,7 @@ class Schema(unittest.TestCase):
 
     def test_rejects(self) -> None:
         """Lines that no report has: without a key, with another one, with values of another type."""
-        good: dict[str, object] = {**NOT_TEXT, "action": "curve", "kind": "EMR_ELLIPSE", "record": 2}
+        good: dict[str, object] = {**NOT_TEXT, "action": "curve", "file": "a", "kind": "EMR_ELLIPSE", "record": 2}
         self.assertTrue(VALIDATOR.is_valid(good))
         changes: list[dict[str, object]] = [{"record": -1}, {"record": "2"}, {"action": "x"}, {"box": [1, 2, 3]}]
         changes += [{"new": 1}, {"text": 3}]

@@ -1,4 +1,4 @@
-"""Blocks that take the place of text, with a layer of squares whose points are worked out by hand."""
+"""Blocks that take the place of text of EMF, with a layer of squares whose points are worked out by hand."""
 
 import hashlib
 import unittest
@@ -9,43 +9,11 @@ from metaplay_fixup.options import Options
 from metaplay_fixup.output import Action
 from metaplay_fixup.text import Box
 
-from .oracle import (
-    EMF_END,
-    NO_BOUNDS,
-    emf_file,
-    emf_record,
-    emf_script,
-    i16,
-    i32,
-    placeable_file,
-    refusal_of,
-    u16,
-    u32,
-    wmf_record,
-    wmf_script,
-)
+from .emf_records import PARTS, map_to, modify, world
+from .oracle import EMF_END, NO_BOUNDS, emf_file, emf_record, emf_script, i16, i32, refusal_of, u16, u32
 from .parts import Place, number, places_of, records_of
 from .squares import Squares
-from .test_emf import PARTS, map_to, modify, world
-
-TRANSPARENT = emf_script("back_mode 1")
-UPDATE_POSITION = emf_record(22, u32(1))
-
-
-def font(height: int = 10, underline: int = 0, index: int = 1) -> list[bytes]:
-    """A font, selected."""
-    sizes = i32(height, 0, 0, 0, 400) + bytes([0, underline, 0, 0, 0, 0, 0, 0])
-    return [
-        emf_record(82, u32(index) + sizes + "Squares".encode("utf-16-le").ljust(64, b"\0")),
-        emf_record(37, u32(index)),
-    ]
-
-
-def text(string: str, x: int, y: int, options: int = 0, box: tuple[int, int, int, int] = (0, 0, -1, -1)) -> bytes:
-    """EMR_EXTTEXTOUTW without distances."""
-    codes = string.encode("utf-16-le")
-    numbers = u32(1, 0, 0) + i32(x, y) + u32(len(string), 76, options) + i32(*box) + u32(0)
-    return emf_record(84, NO_BOUNDS + numbers + codes + bytes(-len(codes) % 4))
+from .text_records import END, SETTINGS, TRANSPARENT, UPDATE_POSITION, brush, font, square, text
 
 
 def converted(records: list[bytes]) -> list[Place]:
@@ -55,24 +23,6 @@ def converted(records: list[bytes]) -> list[Place]:
     assert refusal_of(result.data) is None, refusal_of(result.data)
     assert convert(result.data, Options(), None) == Converted(result.data, ())
     return places_of(data, result.data)
-
-
-def square(x: int, y: int, origin: tuple[int, int], size: int = 10) -> bytes:
-    """The polygon of a square in a block with an origin."""
-    left, top = (x - origin[0]) * PARTS, (y - origin[1]) * PARTS
-    right, bottom = left + size * PARTS, top + size * PARTS
-    return emf_record(
-        86, i32(x, y, x + size, y + size) + u32(4) + i16(left, top, right, top, right, bottom, left, bottom)
-    )
-
-
-def brush(colour: int) -> list[bytes]:
-    """A brush at the index beyond the file's, selected."""
-    return [emf_record(39, u32(4, 0, colour, 0)), emf_record(37, u32(4))]
-
-
-SETTINGS = [emf_record(19, u32(2)), emf_record(20, u32(13)), emf_record(37, u32(0x80000008))]
-END = [emf_record(34, i32(-1)), emf_record(40, u32(4))]
 
 
 class Emf(unittest.TestCase):
@@ -269,97 +219,6 @@ class Emf(unittest.TestCase):
             with self.assertRaises(Fault) as raised:
                 convert(emf_file([record]), Options(), Squares())
             self.assertEqual(raised.exception.name, FaultName.BadParams)
-
-
-class Wmf(unittest.TestCase):
-    """Text of WMF."""
-
-    FONT = wmf_record(0x02FB, i16(10, 0, 0, 0, 400) + bytes(8) + b"Squares\0")
-    SETUP = [*wmf_script("back_mode 1"), FONT, *wmf_script("select 0")]
-
-    def converted(self, records: list[bytes]) -> list[Place]:
-        """The replaced places of a file of these records, which plays, and converts to itself without a layer."""
-        data = placeable_file([*self.SETUP, *records])
-        result = convert(data, Options(), Squares())
-        self.assertIsNone(refusal_of(result.data))
-        self.assertEqual(convert(result.data, Options(), None), Converted(result.data, ()))
-        return places_of(data, result.data)
-
-    def block(self, x: int, y: int, *records: bytes) -> list[bytes]:
-        """A block in 256 parts, counted from a point, with pen and brush at the indexes 1 and 2."""
-        return [
-            wmf_record(0x001E),
-            wmf_record(0x020B, i16(-y * 256, -x * 256)),
-            wmf_record(0x020C, i16(25600, 25600)),
-            wmf_record(0x0106, u16(2)),
-            wmf_record(0x0104, u16(13)),
-            wmf_record(0x02FA, u16(5) + bytes(8)),
-            wmf_record(0x012D, u16(1)),
-            *records,
-            wmf_record(0x0127, i16(-1)),
-            wmf_record(0x01F0, u16(1)),
-        ]
-
-    def brush(self, colour: int, index: int) -> list[bytes]:
-        """A brush, selected."""
-        return [wmf_record(0x02FC, u16(0) + u32(colour) + u16(0)), wmf_record(0x012D, u16(index))]
-
-    SQUARE = wmf_record(0x0324, i16(4, 0, 0, 2560, 0, 2560, 2560, 0, 2560))
-
-    def test_text(self) -> None:
-        """META_TEXTOUT: a string of odd length is filled up; y comes before x."""
-        (place,) = self.converted([wmf_record(0x0521, i16(1) + b"a\0" + i16(30, 20))])
-        expected = [*self.block(20, 30, *self.brush(0, 2), self.SQUARE), wmf_record(0x01F0, u16(2))]
-        self.assertEqual(place.records, expected)
-
-    def test_two_colours(self) -> None:
-        """The second brush takes another index, and the first goes when it is no longer selected."""
-        record = wmf_record(0x0A32, i16(30, 20, 1, 2) + i16(20, 30, 30, 40) + b"a\0")
-        (place,) = self.converted([wmf_record(0x0209, u32(0xFF)), record])
-        brushes = [*self.brush(0xFFFFFF, 2), self.SQUARE, *self.brush(0xFF, 3), wmf_record(0x01F0, u16(2)), self.SQUARE]
-        self.assertEqual(place.records, [*self.block(20, 30, *brushes), wmf_record(0x01F0, u16(3))])
-
-    def test_distances(self) -> None:
-        """META_EXTTEXTOUT: a box, the string, and a distance for each character."""
-        squares = Squares()
-        record = wmf_record(0x0A32, i16(30, 20, 3, 4) + i16(1, 2, 3, 4) + b"abc\0" + i16(7, -8, 9))
-        convert(placeable_file([*self.SETUP, record]), Options(), squares)
-        ((asked, asked_font, _),) = squares.asked
-        self.assertEqual((asked.codes, asked.distances_x, asked.box), (b"abc", (7, -8, 9), Box(1, 2, 3, 4)))
-        self.assertEqual((asked.reference, asked.graphics_mode, asked_font.face), ((20, 30), 1, "Squares"))
-
-    def test_clipped(self) -> None:
-        """A text that isn't in its box is clipped by it, its corners in the block's units."""
-        record = wmf_record(0x0A32, i16(30, 20, 1, 4) + i16(25, 30, 40, 40) + b"a\0")
-        (place,) = self.converted([record])
-        self.assertEqual(place.records[3], wmf_record(0x0416, i16(2560, 5120, 0, 1280)))
-
-    def test_empty_clip(self) -> None:
-        """A box without an area clips everything."""
-        (place,) = self.converted([wmf_record(0x0A32, i16(30, 20, 1, 4) + i16(25, 30, 25, 40) + b"a\0")])
-        self.assertEqual(place.records, [])
-
-    def test_position(self) -> None:
-        """Text that moves the position begins there, and a line after it begins at its end."""
-        records = [
-            wmf_record(0x012E, u16(1)),
-            *wmf_script("move 5 6"),
-            wmf_record(0x0521, i16(1) + b"a\0" + i16(90, 90)),
-        ]
-        places = self.converted([*records, *wmf_script("line 9 9")])
-        self.assertEqual(places[0].records[-1], wmf_record(0x0214, i16(6, 15)))
-
-    def test_text_only(self) -> None:
-        """An ellipse stays, and the position is set at once."""
-        records = [
-            wmf_record(0x012E, u16(1)),
-            wmf_record(0x0418, i16(9, 9, 1, 1)),
-            wmf_record(0x0521, i16(1) + b"a\0" + i16(0, 0)),
-        ]
-        data = placeable_file([*self.SETUP, *records])
-        (place,) = places_of(data, convert(data, Options(text_only=True), Squares()).data)
-        self.assertEqual((place.first, place.count), (5, 1))
-        self.assertEqual(place.records[-1], wmf_record(0x0214, i16(0, 10)))
 
 
 if __name__ == "__main__":

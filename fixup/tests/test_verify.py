@@ -18,9 +18,9 @@ from .oracle import wmf_script
 from .parts import places_of
 from .planted import converted, emf_comment, emf_original, mark, wmf_comment, wmf_original
 from .squares import Squares
-from .test_emf import world
+from .emf_records import world
 from .test_laws import made_files, mutant, samples
-from .test_text_blocks import font, text
+from .text_records import font, text
 
 MUTANTS = 500
 SECONDS_OF_A_FILE = 5.0

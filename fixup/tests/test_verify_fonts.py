@@ -10,7 +10,7 @@ from metaplay_verify import verify
 
 from .made_folder import MadeFolder
 from .oracle import emf_file, emf_record, emf_script, i16, i32, placeable_file, u16, u32, wmf_record, wmf_script
-from .test_emf import world
+from .emf_records import world
 
 RANDOM_FILES = 200
 

@@ -12,8 +12,8 @@ from metaplay_verify.reading import Reader
 from .oracle import EMF_END, emf_file, emf_record, emf_script, i16, i32, placeable_file, u16, u32, wmf_record
 from .parts import places_of, records_of
 from .planted import converted, emf_comment, joined, mark
-from .test_emf import world
-from .test_text_blocks import UPDATE_POSITION, font, text
+from .emf_records import modify, world
+from .text_records import UPDATE_POSITION, font, text
 
 TRANSPARENT = emf_script("back_mode 1")
 FUNCTIONS = [0x001E, 0x00F7, 0x0102, 0x0103, 0x0108, 0x0127, 0x012D, 0x012E, 0x0142, 0x01F0, 0x01F9, 0x0201, 0x0209]
@@ -70,10 +70,43 @@ class Made(unittest.TestCase):
         brush = emf_record(39, u32(4, 0, 0xFF, 0))
         self.refuse("itself uses the index", verdict_of([brush], [self.A], block_of(self.A)))
 
+    def test_index_used_later(self) -> None:
+        """The same behind the block, whose index the header then counts."""
+        original = emf_file([*TRANSPARENT, *font(4), self.A, *emf_script("pixel 1 1"), emf_record(39, u32(7, 0, 0, 0))])
+        fixed = converted(original)
+        later = original.replace(emf_record(39, u32(7, 0, 0, 0)), emf_record(39, u32(4, 0, 0, 0)))
+        changed = fixed.replace(emf_record(39, u32(7, 0, 0, 0)), emf_record(39, u32(4, 0, 0, 0)))
+        digest, new = (hashlib.sha256(data).hexdigest().encode() for data in (original, later))
+        self.assertTrue(verify(original, fixed, True).holds)
+        self.refuse("itself uses the index", verify(later, changed.replace(digest, new), True))
+
+    def test_unknown_states(self) -> None:
+        """A colour that no palette has, units of an unknown device, and a curve that ends anywhere."""
+        wrong = [emf_record(24, u32(0x01000007))]
+        self.refuse("another colour than the text's", verdict_of(wrong, [self.A], block_of(self.A)))
+        back = [*wrong, emf_record(24, u32(0))]
+        self.assertTrue(verdict_of(back, [self.A], block_of(self.A)).holds)
+        curve = emf_record(92, i32(0, 0, -1, -1, 1) + i16(20, 30) + b"\2\0\0\0")
+        verdict = verdict_of([UPDATE_POSITION, curve], [self.A], block_of(self.A))
+        self.refuse("where the text begins isn't known", verdict)
+        state = Reader(read(placeable_file([])))
+        for mode, is_mapped in ((2, False), (8, False), (1, True), (9, True)):
+            state.see(wmf_record(0x0103, u16(mode)))
+            self.assertEqual(state.state.is_mapped, is_mapped)
+
     def test_world(self) -> None:
         """A block must set a world aside."""
         turned = [world(0, 1, -1, 0, 50, 10)]
         self.refuse("doesn't set the world aside", verdict_of(turned, [self.A], block_of(self.A)))
+
+    def test_reset_world(self) -> None:
+        """The identity takes no numbers, so it doesn't matter which ones its record has."""
+        infinite = float("inf")
+        reset = modify(1, infinite, 0, 0, 1, 0, 0)
+        self.assertTrue(verdict_of([world(2, 0, 0, 2, 0, 0), reset], [self.A], block_of(self.A)).holds)
+        for mode in (2, 3, 4):
+            unchanged = [reset, modify(mode, infinite, 0, 0, 1, 0, 0)]
+            self.assertTrue(verdict_of(unchanged, [self.A], block_of(self.A)).holds)
 
     def test_maps(self) -> None:
         """Under another map the text lies elsewhere."""
