@@ -50,6 +50,19 @@ class Instructions(unittest.TestCase):
                     self.assertTrue(image == shown)
                     self.assertLess(library, MOST * program, f"{library:,} by the library, {program:,} by the program")
 
+    def test_a_preparation_takes_about_as_many_as_the_program(self):
+        # Without a certificate the example prepares one: the first of two calls tells its length.
+        with tempfile.TemporaryDirectory() as folder:
+            file, certificate = pathlib.Path(folder, "file"), pathlib.Path(folder, "certificate")
+            width, height = SURFACES[-1]
+            file.write_bytes(small_drawings(width, height))
+            sides = [str(width), str(height)]
+            program, _ = instructions([PROGRAMS[0], "prepare", file, *sides, certificate])
+            playing, image = instructions([linked_show(), file, *sides, certificate])
+            both, same = instructions([linked_show(), file, *sides])
+            self.assertTrue(image == same)
+            self.assertLess(both - playing, 2 * MOST * program, f"{both - playing:,} by two calls of the library, {program:,} by the program")
+
 
 if __name__ == "__main__":
     unittest.main()
