@@ -1,5 +1,5 @@
 """Files on which slips make the program slow that no other counted file shows: thin strokes around a surface, wide strokes below it, polygons with some
-edges a column, two tiled spans a row, short records of empty lists, long comments, and lines to the left."""
+edges a column, two tiled spans a row, short records of empty lists, and long comments."""
 
 import random
 
@@ -56,15 +56,6 @@ def long_comments() -> Counted:
     return Counted(EMF.file(records, 64, 16), 64, 64)
 
 
-def short_lines_to_the_left() -> Counted:
-    """Thin strokes of 2,000 short lines each of which runs to the left or up: those inside the surface aren't cut."""
-    side, records = 4_096, []
-    for nth in range(10):
-        places = [part for step in range(2_000) for part in (4_090 - 2 * step, 10 + 40 * nth + step % 2)]
-        records.append(EMF.step("short_polyline", *places))
-    return Counted(EMF.file(records, (side, 512), 16), side, 512)
-
-
 FILES = {
     "2,000 thin strokes around a surface, 128 by 128": thin_strokes_around_a_surface,
     "8 strokes of 5,000 lines below a surface, nib 9 by 9": wide_strokes_below_a_surface,
@@ -72,5 +63,4 @@ FILES = {
     "20 tiled polygons of two spans a row, 8,192 by 64": two_tiled_spans_a_row,
     "150 records of 900 empty lists": short_records_of_empty_lists,
     "5 comments of 600,000 bytes": long_comments,
-    "10 strokes of 2,000 short lines to the left, 4,096 by 512": short_lines_to_the_left,
 }
