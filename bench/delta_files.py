@@ -1,5 +1,5 @@
-"""Files on which slips make the program slow that no other counted file shows: thin strokes around a surface, wide strokes below it, polygons with some
-edges a column, two tiled spans a row, short records of empty lists, and long comments."""
+"""Files on which slips make the program slow that no other counted file shows: thin strokes around a surface, wide strokes below it, polygons with
+some edges a column, two tiled spans a row, short records of empty lists, and long comments."""
 
 import random
 
