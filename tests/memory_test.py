@@ -146,6 +146,17 @@ class Memory(unittest.TestCase):
                 self.assertEqual(image.read(len(header)), header)
 
     @for_each_program
+    def test_a_file_of_much_work_on_a_large_surface(self, program):
+        # Its bands are the highest that are chosen, since its records are gone through again for each.
+        for form in FORMS:
+            given = form.file(form.records("3000x polygon 1 1 3 1 1 3"), SIDE, 0)
+            for width, height in [(4096, 4096), (8192, 8192)]:
+                words = [program, "show", "stdin", str(width), str(height)]
+                limit = within(bare(program) + 3 * len(given) + 48 + ROOM)
+                ran = subprocess.run(words, input=given, stdout=subprocess.DEVNULL, stderr=subprocess.PIPE, check=False, preexec_fn=limit)
+                self.assertEqual((ran.returncode, ran.stderr), (0, b""), (form.name, width, height))
+
+    @for_each_program
     def test_a_long_file_is_held_once_and_while_it_grows_no_more_than_thrice(self, program):
         # A list of bytes that is full moves into one at most twice as long, and both are there for a moment.
         given = DOT.ljust(20 * MIB, b"\0")

@@ -178,6 +178,14 @@ class PreparedFile(unittest.TestCase):
             self.assertEqual({it.replace("write", "fsync") for it in writes}, {synced})
 
     @for_each_program
+    def test_a_long_certificate_is_written_at_once(self, program):
+        # It is all there before the file is opened: a system call for each part of it would take longer than all else.
+        given = WMF.file(WMF.records("5000x pixel 1 1"), 4, 0)
+        said = self.prepare(program, self.out, given, env=self.preloading(SAYS_ORDER))
+        self.assertEqual([line.split()[0] for line in said.err.decode().splitlines()], ["write", "fsync", "rename"])
+        self.assertEqual(self.out.stat().st_size, 40 + 20 * 5000)
+
+    @for_each_program
     def test_a_file_that_cannot_be_renamed_is_removed(self, program):
         settings = self.preloading(IS_NOT_RENAMED)
         for old in (None, OLD):

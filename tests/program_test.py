@@ -5,12 +5,14 @@ import itertools
 import os
 import resource
 import shutil
+import socket
 import struct
 import subprocess
 import tempfile
 import unittest
 
 from built import DOT, DOT_IMAGE, SAMPLES, Answer, answer, for_each_program
+from metafile.scripts import WMF
 
 DOT_FILE = SAMPLES / "dot.wmf"
 
@@ -190,6 +192,22 @@ class Program(unittest.TestCase):
         ran = subprocess.run(words, stdout=writer, stderr=subprocess.PIPE, check=False)
         os.close(writer)
         self.assertEqual(Answer(ran.returncode, b"", ran.stderr), CANNOT_WRITE)
+
+    @for_each_program
+    def test_long_outputs_are_written_in_large_pieces(self, program):
+        # Each write to such a socket is one message. They have nearly as many bytes as a buffer holds, on the average.
+        given = WMF.file(WMF.records("3000x pixel 1 1"), 4, 0)
+        for words, least in [(["list", "stdin"], 7_000), (["show", "stdin", "64", "2048"], 10_000)]:
+            reader, writer = socket.socketpair(socket.AF_UNIX, socket.SOCK_SEQPACKET)
+            with reader, writer, tempfile.TemporaryFile() as file:
+                file.write(given)
+                file.seek(0)
+                with subprocess.Popen([program, *words], stdin=file, stdout=writer) as ran:
+                    writer.close()
+                    pieces = list(iter(lambda sent=reader: len(sent.recv(1 << 20)), 0))
+                self.assertEqual(ran.returncode, 0)
+                self.assertGreater(len(pieces), 10, words)
+                self.assertGreaterEqual(sum(pieces) // len(pieces), least, words)
 
     @for_each_program
     def test_a_fault_of_standard_error_changes_no_status(self, program):
