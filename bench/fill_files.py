@@ -80,6 +80,12 @@ def few_rows_for_a_table() -> Counted:
     return filled([zigzag(8_400, 60, 64)], 60, 64)
 
 
+def some_edges_a_column() -> Counted:
+    """Polygons of 600 edges on 200 columns, in another order in each row: they are counted by columns and not sorted."""
+    chance, width, height = random.Random(902), 200, 24
+    return filled([[part for nth in range(600) for part in (chance.randrange(width), nth % 2 * height)] for _ in range(10)], width, height)
+
+
 def short_lines_behind_a_cut() -> Counted:
     """A thin stroke behind a cut, which goes by rows of spans: of 8,000 short lines one half ends in one row, and the other begins in rows from the
     last one upwards."""
@@ -195,6 +201,7 @@ FILES = {
     "10 strokes behind a wide cut, 8,192 by 64": strokes_behind_a_wide_cut,
     "4,000 lines between covers, nib 3 by 3": lines_between_covers,
     "12,000 lines beside the cover, nib 5 by 5": lines_beside_the_cover,
+    "10 polygons of 600 edges, 200 by 24": some_edges_a_column,
 }
 
 # What is to show in these is a part of their work.

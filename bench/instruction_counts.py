@@ -10,7 +10,6 @@ import tempfile
 from concurrent.futures import ThreadPoolExecutor
 
 import clipped_files
-import delta_files
 import fill_files
 import image_files
 import instruction_files
@@ -34,7 +33,6 @@ MODULES = [
     clipped_files,
     record_files,
     wide_stroke_files,
-    delta_files,
 ]
 
 # The files whose instructions are counted under both profiles, and those of them with a limit of their own.

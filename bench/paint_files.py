@@ -43,6 +43,24 @@ def wide_drawings_between_cuts() -> Counted:
     return Counted(WMF.file(records, (8192, 64), 0), 8192, 64)
 
 
+def two_tiled_spans_a_row() -> Counted:
+    """Tiled polygons of two narrow slanted strips beside each other, on a wide surface: the tile is gathered from one strip to the other alone."""
+    width, height, records = 8192, 64, tiled()
+    for nth in range(20):
+        strips = [[left, 0, left + 20, 0, width - 100 + left, height, width - 120 + left, height] for left in (nth, nth + 40)]
+        records.append(WMF.step("polygons", *listed(strips)))
+    return Counted(WMF.file(records, (width, height), 0), width, height)
+
+
+def thin_strokes_around_a_surface() -> Counted:
+    """Thin strokes of two lines around a surface, of which none is seen: little is cleared for them, a bit for each pixel of their box."""
+    side, records = 128, []
+    for nth in range(2_000):
+        far = 300 + nth % 50
+        records.append(EMF.step("short_polyline", -far, far, -far, -far, far, -far))
+    return Counted(EMF.file(records, side, 16), side, side)
+
+
 def low_hatched_rectangles() -> Counted:
     """Opaque hatched rectangles of one row: what is painted is made for this row alone."""
     chance, side = random.Random(203), 64
@@ -239,6 +257,8 @@ FILES = {
     "400 narrow rectangles beside a cut, 8,192 by 64": narrow_rectangles_beside_a_cut,
     "10 steep strokes beside flat lines, 256 by 256": steep_strokes_beside_flat_lines,
     "a wide outline of 300 lines, nib 9 by 9": wide_outline,
+    "20 tiled polygons of two spans a row, 8,192 by 64": two_tiled_spans_a_row,
+    "2,000 thin strokes around a surface, 128 by 128": thin_strokes_around_a_surface,
 }
 
 # What is to show in these is a small part of their work. One of them is in `slip_files`.

@@ -3,7 +3,7 @@ large as the surface, long lists of which nothing is seen, lists without points,
 
 import random
 
-from instruction_files import Counted
+from instruction_files import COMMENT, Counted
 from writers import BETWEEN, EMF, WMF
 
 
@@ -72,6 +72,18 @@ def listed_long_names() -> Counted:
     return Counted(WMF.file(records, 64, 0), 64, 64, command="list")
 
 
+def short_records_of_empty_lists() -> Counted:
+    """Records of 900 empty lists and a triangle: empty lists are passed over by words of eight bytes, also where they are few."""
+    records = [EMF.step("short_polygons", *[BETWEEN] * 900, 0, 0, 9, 0, 0, 9)] * 150
+    return Counted(EMF.file(records, 64, 16), 64, 64)
+
+
+def long_comments() -> Counted:
+    """Comments of 600,000 bytes: of each the first bytes are read."""
+    records = [EMF.record(COMMENT, bytes(600_000))] * 5
+    return Counted(EMF.file(records, 64, 16), 64, 64)
+
+
 FILES = {
     "3,000 dots before a wide line": late_wide_line,
     "one pen of 65,535, 8,192 by 1,024": one_pen_of_many,
@@ -82,6 +94,8 @@ FILES = {
     "360,000 empty lists in paths": empty_lists_in_a_path,
     "300,000 empty lists, info": told_empty_lists,
     "10,000 records of long names, listed": listed_long_names,
+    "150 records of 900 empty lists": short_records_of_empty_lists,
+    "5 comments of 600,000 bytes": long_comments,
 }
 
 # What is to show in these is a small part of their work.
