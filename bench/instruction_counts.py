@@ -19,6 +19,7 @@ import row_files
 import slip_files
 import stroke_files
 import wide_stroke_files
+import zeta_files
 from print_files import PARTS, named_print, under_print
 from writers import PROGRAM, ROOT
 
@@ -33,6 +34,7 @@ MODULES = [
     clipped_files,
     record_files,
     wide_stroke_files,
+    zeta_files,
 ]
 
 # The files whose instructions are counted under both profiles, and those of them with a limit of their own.
