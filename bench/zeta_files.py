@@ -1,5 +1,5 @@
-"""Files on which slips make the program slow that neither long drawings nor many of them show: what is looked for before the first record, and what is
-cleared again for each band."""
+"""Files on which slips make the program slow that neither long drawings nor many of them show: what is looked for before the first record,
+and what is cleared or gone through again for each band."""
 
 from instruction_files import Counted
 from writers import BETWEEN, EMF, WMF
