@@ -8,8 +8,8 @@ from writers import BETWEEN, EMF, MASKED, PATCOPY, PATINVERT, SRCCOPY, WMF, Bitm
 
 
 class Counted(NamedTuple):
-    """A file, the surface that it is shown on, or another command that it is given to, the options for its rules, the status that is wanted, and the
-    image that it is played over."""
+    """A file, the surface that it is shown on, or another command that it is given to, the options for its rules, the status that is wanted, the
+    image that it is played over, and the rows of a band where a play is asked for these."""
 
     given: bytes
     width: int
@@ -18,6 +18,7 @@ class Counted(NamedTuple):
     options: tuple[str, ...] = ()
     status: int = 0
     image: bytes = b""
+    bands: int = 0
 
     def sides(self):
         """The words for its surface."""
@@ -29,7 +30,8 @@ class Counted(NamedTuple):
 
     def words(self):
         """The words of the command that is counted, on a file named `file`."""
-        certified = {"check": ["file", "certificate"], "play": ["file", "certificate", *self.sides()], "over": ["file", "certificate", "image"]}
+        bands = ["--bands", str(self.bands)] if self.bands else []
+        certified = {"check": ["file", "certificate"], "play": ["file", "certificate", *self.sides(), *bands], "over": ["file", "certificate", "image"]}
         plain = {"show": ["file", *self.sides()], "list": ["file"], "info": ["file"]}
         return [self.command, *(certified.get(self.command) or [*plain[self.command], *self.options])]
 

@@ -168,6 +168,18 @@ class Memory(unittest.TestCase):
         self.assertEqual(answered, Answer(0, DOT_IMAGE, b""))
 
     @for_each_program
+    def test_of_many_files_one_is_held_at_a_time(self, program):
+        given = DOT.ljust(4 * MIB, b"\0")
+        with tempfile.TemporaryDirectory() as folder:
+            names = [pathlib.Path(folder, f"{nth}.wmf") for nth in range(12)]
+            for name in names:
+                name.write_bytes(given)
+            ample = answer(program, ["info", *names])
+            self.assertEqual((ample.status, ample.out.count(b"\n")), (0, len(names)))
+            limit = bare(program) + 3 * len(given) + 48 + ROOM
+            self.assertEqual(answer_within(limit, program, ["info", *names]), ample)
+
+    @for_each_program
     def test_a_listing_takes_no_more_where_a_file_draws_more(self, program):
         # The file is held as above. To draw such a polygon takes more than the room.
         for script in (f"polygon {points(400000)}", "100000x pixel 1 1"):
