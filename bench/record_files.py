@@ -1,5 +1,6 @@
 """Files on which slips make slow what is done with records and certificates, and that no other counted file shows: entries that are widened, boxes as
-large as the surface, long lists of which nothing is seen, lists without points, and lines of a listing."""
+large as the surface, long lists of which nothing is seen, lists without points, lines of a listing, what is looked for before the first record, and
+what is cleared or gone through again for each band."""
 
 import random
 
