@@ -12,7 +12,7 @@ from c_library import compiled, folder, linked_show
 from metafile.scripts import WMF
 
 # How many times the program's instructions a play by the library may take. It has the file's bytes at once, and copies no image to a pipe.
-MOST = 1.15
+MOST = 1.08
 
 # Surfaces that are high or wide, which are played in many bands, and one that is played in few.
 SURFACES = [(300, 8192), (8192, 300), (600, 600), (64, 8192), (2048, 2048)]
