@@ -48,7 +48,7 @@ CLOSE = CLOSE_BOTH | {named_print(name): most for name, most in CLOSE_BOTH.items
 RECORD = ROOT / "bench" / "instructions.json"
 
 # How many times the instructions on record a file may take at most.
-MOST = 1.3
+MOST = 1.2
 
 
 class Uncounted(Exception):

@@ -19,7 +19,7 @@ MOST_CHANGED = 1.05
 
 
 class Instructions(unittest.TestCase):
-    """No file takes more than 1.3 times the instructions on record, and some no more than 1.15 or 1.1. The record is of the program as LLVM builds it."""
+    """No file takes more than 1.2 times the instructions on record, and some no more than 1.15 or 1.1. The record is of the program as LLVM builds it."""
 
     @classmethod
     def setUpClass(cls):
@@ -31,9 +31,9 @@ class Instructions(unittest.TestCase):
         self.assertEqual([name for name in recorded if name not in FILES], [], "these records have no file")
         self.assertEqual(len(FILES), 377)
 
-    def test_the_limit_is_1_3_times_the_record(self):
-        self.assertTrue(is_within(1300, 1000))
-        self.assertFalse(is_within(1301, 1000))
+    def test_the_limit_is_1_2_times_the_record(self):
+        self.assertTrue(is_within(1200, 1000))
+        self.assertFalse(is_within(1201, 1000))
         self.assertTrue(is_within(1150, 1000, 1.15))
         self.assertFalse(is_within(1151, 1000, 1.15))
 
