@@ -83,7 +83,17 @@ def small_blits_in_bands() -> Counted:
     return small_in_bands(232, "pat_blt", PATINVERT)
 
 
+def polygons_below_a_box() -> Counted:
+    """Polygons of 2,000 edges that lie below a box that is kept: their lines aren't taken."""
+    chance, width, height = random.Random(904), 8192, 64
+    records = EMF.records("solid_brush 1 0x206040; select 1; keep 0 0 8192 8")
+    for _ in range(20):
+        records.append(EMF.step("short_polygon", *[part for _ in range(2_000) for part in (chance.randrange(width), 20 + chance.randrange(40))]))
+    return Counted(EMF.file(records, (width, height), 16), width, height)
+
+
 FILES = {
+    "20 polygons of 2,000 edges below a kept box, 8,192 by 64": polygons_below_a_box,
     "600 narrow rectangles in a kept box, 8,192 by 64": narrow_rectangles_in_a_box,
     "400 narrow polygons in a kept box, 8,192 by 64": narrow_polygons_in_a_box,
     "200 hatched rectangles in a kept box, 8,192 by 64": hatched_rectangles_in_a_box,

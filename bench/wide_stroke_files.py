@@ -50,9 +50,20 @@ def wide_strokes_below_a_surface() -> Counted:
     return Counted(EMF.file(records, side, 16), side, side)
 
 
+def wide_strokes_above_a_surface() -> Counted:
+    """The same above it."""
+    chance, side = random.Random(903), 64
+    records = EMF.records("styled_pen 0 0 9 0x8040; select 0")
+    for _ in range(8):
+        above = [part for _ in range(5_000) for part in (chance.randrange(side), -200 - chance.randrange(200))]
+        records.append(EMF.step("short_polyline", 0, 0, 60, 60, *above))
+    return Counted(EMF.file(records, side, 16), side, side)
+
+
 FILES = {
     "6 strokes of 500 lines in two corners, 2,048 by 2,048": strokes_of_500_lines_in_two_corners,
     "10 high strokes in two corners, 8,192 by 512": high_strokes_in_two_corners,
     "20 scaled outlines above a surface, nib 9 by 9": scaled_outlines_above_a_surface,
     "8 strokes of 5,000 lines below a surface, nib 9 by 9": wide_strokes_below_a_surface,
+    "8 strokes of 5,000 lines above a surface, nib 9 by 9": wide_strokes_above_a_surface,
 }
