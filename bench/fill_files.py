@@ -180,6 +180,18 @@ def lines_beside_the_cover() -> Counted:
     return Counted(EMF.file(records, (width, height), 16), width, height)
 
 
+def edges_from_the_last_row() -> Counted:
+    """Polygons of 198 edges, each above the one before it, of which the surface has four rows: edges are sorted, however few they are."""
+    return filled([[part for nth in range(198) for part in (nth * 37 % 61, 199 - nth)]] * 100, 64, 4)
+
+
+def triangles_behind_a_large_polygon() -> Counted:
+    """Small triangles behind a polygon of 5,000 edges, of as many as a table is for: what is kept for a table is left alone by the others."""
+    chance, side = random.Random(208), 64
+    large = [nth % 2 for nth in range(5_000) for _ in range(2)]
+    return filled([large, *([chance.randrange(side) for _ in range(6)] for _ in range(400))], side, side)
+
+
 FILES = {
     "1,200 upright teeth, 1,100 by 200": teeth_by_turns,
     "1,200 upright teeth, 1,100 by 200, by windings": teeth_by_windings,
@@ -202,6 +214,8 @@ FILES = {
     "4,000 lines between covers, nib 3 by 3": lines_between_covers,
     "12,000 lines beside the cover, nib 5 by 5": lines_beside_the_cover,
     "10 polygons of 600 edges, 200 by 24": some_edges_a_column,
+    "400 triangles behind a polygon of 5,000 edges, 64 by 64": triangles_behind_a_large_polygon,
+    "100 polygons of 198 edges from the last row on, 64 by 4": edges_from_the_last_row,
 }
 
 # What is to show in these is a part of their work.

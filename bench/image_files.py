@@ -5,8 +5,8 @@ import random
 from instruction_files import Counted, noise
 from writers import EMF, MASKED, PATCOPY, PATINVERT, SRCCOPY, WMF, Bitmap, header
 
-# A ternary raster operation ([MS-WMF] 2.1.1.31) that needs neither a source nor a pattern.
-DSTINVERT = 0x00550009
+# Ternary raster operations ([MS-WMF] 2.1.1.31): one that needs neither a source nor a pattern, and one that needs a source alone.
+DSTINVERT, SRCINVERT = 0x00550009, 0x00660046
 
 
 def sixty_columns(records: list[bytes], seed: int) -> Counted:
@@ -124,6 +124,33 @@ def nothing_on_a_wider_band() -> Counted:
     return Counted(EMF.file([], 48, 16), 48, 8_192)
 
 
+def inverted_by_a_bitmap() -> Counted:
+    """Blits of a bitmap by an operation that depends on it and not on a brush: most is mixed by eights too."""
+    side = 512
+    records = [WMF.step("stretch_dib", SRCINVERT, 0, 0, side, side, 0, 0, 64, 64, str(noise(64, 24)))] * 3
+    return Counted(WMF.file(records, side, 0), side, side)
+
+
+def stretched_beside_a_cut() -> Counted:
+    """A bitmap of two rows, stretched upright while one pixel is cut out: each of its rows is read once for many of the surface."""
+    side = 512
+    records = WMF.records("cut 0 0 1 1") + [WMF.step("stretch_dib", SRCCOPY, 0, 0, side, side, 0, 0, 64, 2, str(noise(64, 24)))] * 4
+    return Counted(WMF.file(records, side, 0), side, side)
+
+
+def high_bitmaps() -> Counted:
+    """Blits of four rows of bitmaps that have 8,192: whether a bitmap has all its rows is told by one product."""
+    bitmap = str(Bitmap(header(1, 8_192, 24), bytes(4 * 8_192)))
+    return Counted(WMF.file([WMF.step("stretch_dib", SRCCOPY, 0, 0, 4, 4, 0, 0, 1, 4, bitmap)] * 40, 64, 0), 64, 64)
+
+
+def inverting_hatches() -> Counted:
+    """Rectangles of a transparent hatch that invert: only the pixels of its lines are gone through, though these are read."""
+    side = 512
+    records = WMF.records("null_pen 0; hatched_brush 1 4 0x804020; select 0; select 1; back_mode 1; raster 7")
+    return Counted(WMF.file(records + [WMF.step("rectangle", 0, 0, side, side)] * 10, side, 0), side, side)
+
+
 FILES = {
     "150 rectangles of 60 columns in one colour": sixty_columns_in_one_colour,
     "150 rectangles of 60 columns, hatched": sixty_columns_hatched,
@@ -139,6 +166,10 @@ FILES = {
     "nothing, 1,024 by 1,024": nothing_on_a_band,
     "nothing, 2 by 8,192": nothing_on_a_narrow_band,
     "nothing, 48 by 8,192": nothing_on_a_wider_band,
+    "3 blits that invert by a bitmap, 512 by 512": inverted_by_a_bitmap,
+    "4 bitmaps stretched beside a cut, 512 by 512": stretched_beside_a_cut,
+    "40 blits of bitmaps of 8,192 rows": high_bitmaps,
+    "10 hatches that invert, 512 by 512": inverting_hatches,
 }
 
 # What is to show in these is a part of their work.

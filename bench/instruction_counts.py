@@ -9,15 +9,19 @@ import subprocess
 import tempfile
 from concurrent.futures import ThreadPoolExecutor
 
+import choice_files
 import clipped_files
+import edge_files
 import fill_files
 import image_files
 import instruction_files
 import paint_files
+import pixel_files
 import record_files
 import row_files
 import slip_files
 import stroke_files
+import told_files
 import wide_stroke_files
 from print_files import PARTS, named_print, under_print
 from writers import PROGRAM, ROOT
@@ -33,6 +37,10 @@ MODULES = [
     clipped_files,
     record_files,
     wide_stroke_files,
+    told_files,
+    pixel_files,
+    edge_files,
+    choice_files,
 ]
 
 # The files whose instructions are counted under both profiles, and those of them with a limit of their own.
@@ -63,11 +71,12 @@ def count(program, name):
         raise Uncounted("valgrind is not there: it counts instructions (apt-get install valgrind)")
     counted = FILES[name]()
     with tempfile.TemporaryDirectory() as folder:
-        pathlib.Path(folder, "file").write_bytes(counted.given)
+        pathlib.Path(folder, "file").write_bytes(counted.certified or counted.given)
         if counted.image:
             pathlib.Path(folder, "image").write_bytes(counted.image)
         if counted.preparing():
             subprocess.run([os.path.abspath(program), *counted.preparing()], cwd=folder, env={}, check=True)
+        pathlib.Path(folder, "file").write_bytes(counted.given)
         words = [valgrind, "--tool=callgrind", "--callgrind-out-file=/dev/null", os.path.abspath(program), *counted.words()]
         ended = subprocess.run(words, cwd=folder, env={}, stdout=subprocess.DEVNULL, stderr=subprocess.PIPE, text=True)
     told = re.search(r"Collected : (\d+)", ended.stderr)

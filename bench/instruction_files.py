@@ -9,7 +9,7 @@ from writers import BETWEEN, EMF, MASKED, PATCOPY, PATINVERT, SRCCOPY, WMF, Bitm
 
 class Counted(NamedTuple):
     """A file, the surface that it is shown on, or another command that it is given to, the options for its rules, the status that is wanted, the
-    image that it is played over, and the rows of a band where a play is asked for these."""
+    image that it is played over, the rows of a band where a play is asked for these, and the file that its certificate is of where that's another."""
 
     given: bytes
     width: int
@@ -19,6 +19,7 @@ class Counted(NamedTuple):
     status: int = 0
     image: bytes = b""
     bands: int = 0
+    certified: bytes = b""
 
     def sides(self):
         """The words for its surface."""

@@ -39,9 +39,9 @@ def build():
             sys.exit(f"{SOURCE} could not be compiled")
 
 
-def show(path, side):
+def show(path, width, height=None):
     """The command that shows a file by the peer: of Windows' paths, drive Z has the whole system's."""
-    return [loader(), str(PROGRAM), f"Z:{path}", str(side), str(side)]
+    return [loader(), str(PROGRAM), f"Z:{path}", str(width), str(width if height is None else height)]
 
 
 @contextlib.contextmanager

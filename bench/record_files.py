@@ -4,8 +4,12 @@ what is cleared or gone through again for each band."""
 
 import random
 
-from instruction_files import COMMENT, Counted
-from writers import BETWEEN, EMF, WMF
+from instruction_files import COMMENT, SETTEXTALIGN, Counted
+from slip_files import anywhere
+from writers import BETWEEN, EMF, WMF, i32, u32
+
+# EMR_POLYPOLYGON16, [MS-EMF] 2.3.5.29, and EMR_GRADIENTFILL, which is rejected and is near the end of the list of types, [MS-EMF] 2.1.1.
+POLYGONS, GRADIENTFILL = 91, 118
 
 
 def late_wide_line() -> Counted:
@@ -102,6 +106,52 @@ def empty_lists_on_a_wide_surface() -> Counted:
     return Counted(EMF.file([EMF.step("short_polygons", *[BETWEEN] * 300_000, 0, 0)], (8192, 64), 16), 8192, 64)
 
 
+def empty_lists_of_short_counts() -> Counted:
+    """Records of 60,000 empty lists behind a triangle, in WMF, where counts have 16 bits: such lists are passed over many at a time too."""
+    records = WMF.records("null_pen 0; select 0") + [WMF.step("polygons", 0, 0, 9, 0, 0, 9, *[BETWEEN] * 60_000, 0, 0)] * 3
+    return Counted(WMF.file(records, 64, 0), 64, 64)
+
+
+def counts_that_are_too_many() -> Counted:
+    """A record of 300,000 counts, of which the first is above the number of all points: the others aren't read."""
+    counts = u32(300_000, 8, 9, *[0] * 299_999)
+    records = [EMF.record(POLYGONS, i32(0, 0, -1, -1) + counts + bytes(32))]
+    return Counted(EMF.file(records, 64, 16), 64, 64, status=1)
+
+
+def polygons_of_short_counts() -> Counted:
+    """A record of 8,000 polygons of one point, in WMF: where a polygon's points lie is told without the counts of those before it."""
+    places = [part for nth in range(8_000) for part in [BETWEEN] * (nth > 0) + [nth % 60, nth % 50]]
+    return Counted(WMF.file([WMF.step("polygons", *places)], 64, 0), 64, 64)
+
+
+def checked_polylines() -> Counted:
+    """Polylines of 10,000 points, checked: the points are gone through once, and it is their box that is held against the entry's."""
+    chance = random.Random(218)
+    records = [EMF.step("short_polyline", *anywhere(chance, 10_000, 0, 64, 64)) for _ in range(10)]
+    return Counted(EMF.file(records, 64, 16), 64, 64, command="check")
+
+
+def unseen_paths() -> Counted:
+    """Paths of 30,000 points right of a box that is kept, stroked: their box is known when they are painted, and their points aren't gone through."""
+    chance, records = random.Random(219), EMF.records("keep 0 0 8 64")
+    for _ in range(5):
+        points = EMF.step("short_polyline", *anywhere(chance, 30_000, 20, 60, 60))
+        records += [EMF.step("begin_path"), points, *EMF.records("end_path; stroke_path")]
+    return Counted(EMF.file(records, 64, 16), 64, 64)
+
+
+def skipped_in_low_bands() -> Counted:
+    """1,000 records without an effect, played in 64 bands of eight rows: of each, nothing is copied but what it asks for."""
+    records = [EMF.record(SETTEXTALIGN, bytes(4))] * 1_000
+    return Counted(EMF.file(records, (64, 512), 16), 64, 512, command="play", bands=8)
+
+
+def listed_rejected_types() -> Counted:
+    """Records that are rejected, whose type is near the end of the list of types, listed: a name is found without a look at those before it."""
+    return Counted(EMF.file([EMF.record(GRADIENTFILL, bytes(8))] * 10_000, 64, 16), 64, 64, command="list")
+
+
 FILES = {
     "3,000 dots before a wide line": late_wide_line,
     "one pen of 65,535, 8,192 by 1,024": one_pen_of_many,
@@ -117,6 +167,13 @@ FILES = {
     "100,000 records behind one that is rejected, in a plain file": refused_behind_an_early_extent,
     "300,000 empty lists, 8,192 by 64": empty_lists_on_a_wide_surface,
     "one pen in 300 bands, 4 by 300": one_pen_in_low_bands,
+    "180,000 empty lists of short counts": empty_lists_of_short_counts,
+    "300,000 counts that are too many": counts_that_are_too_many,
+    "8,000 polygons of short counts": polygons_of_short_counts,
+    "10 polylines of 10,000 points, checked": checked_polylines,
+    "5 unseen paths of 30,000 points": unseen_paths,
+    "1,000 skipped records in 64 bands": skipped_in_low_bands,
+    "10,000 records of a rejected type, listed": listed_rejected_types,
 }
 
 # What is to show in these is a small part of their work.

@@ -1,5 +1,5 @@
-"""Files on which slips make wide strokes slow that no other counted file shows: strokes in two corners of many lines and of high ones, and outlines
-of filled polygons whose lines lie beside the surface."""
+"""Files on which slips make wide strokes slow that no other counted file shows: strokes in two corners of many lines and of high ones, outlines of
+filled polygons whose lines lie beside the surface, and lines from the leftmost column of their box."""
 
 import random
 
@@ -60,10 +60,32 @@ def wide_strokes_above_a_surface() -> Counted:
     return Counted(EMF.file(records, side, 16), side, side)
 
 
+def lines_from_a_column(left: int) -> Counted:
+    """Strokes of 300 lines from this column to the right, by a nib of 3 by 3: each line goes by its steps."""
+    side = 256
+    heads = [nth * 7 % side for nth in range(300)]
+    ends = [min(side - 1, head + 150) if head < 100 else max(0, head - 150) for head in heads]
+    lines = [[left, head, left + 100 + nth % 60, end] for nth, (head, end) in enumerate(zip(heads, ends, strict=True))]
+    records = EMF.records("styled_pen 0 0 3 0x8040; select 0") + [EMF.step("short_polylines", *listed(lines))] * 3
+    return Counted(EMF.file(records, side, 16), side, side)
+
+
+def lines_from_the_first_column() -> Counted:
+    """From the first column of a surface."""
+    return lines_from_a_column(0)
+
+
+def lines_from_the_leftmost_column() -> Counted:
+    """From another one, which is the leftmost of their box: all that the nib covers lies in that box."""
+    return lines_from_a_column(30)
+
+
 FILES = {
     "6 strokes of 500 lines in two corners, 2,048 by 2,048": strokes_of_500_lines_in_two_corners,
     "10 high strokes in two corners, 8,192 by 512": high_strokes_in_two_corners,
     "20 scaled outlines above a surface, nib 9 by 9": scaled_outlines_above_a_surface,
     "8 strokes of 5,000 lines below a surface, nib 9 by 9": wide_strokes_below_a_surface,
     "8 strokes of 5,000 lines above a surface, nib 9 by 9": wide_strokes_above_a_surface,
+    "3 strokes of 300 lines from the first column, 256 by 256": lines_from_the_first_column,
+    "3 strokes of 300 lines from column 30, 256 by 256": lines_from_the_leftmost_column,
 }

@@ -1,9 +1,12 @@
 # `metaplay install PREFIX` and `metaplay uninstall PREFIX`: the proved program, its manual page, completions for three
-# shells, the recipes, and the proved library for C. DESTDIR, if it is set, stands before each path, as packagers need it.
+# shells, the recipes, the proved library for C, and metaplay-fixup. DESTDIR, if it is set, stands before each path, as
+# packagers need it.
 # shellcheck shell=sh disable=SC2154
 
 # shellcheck source=launcher/library.sh
 . "$root/launcher/library.sh"
+# shellcheck source=launcher/fixup.sh
+. "$root/launcher/fixup.sh"
 
 # The recipe that has the path of the program in it.
 filter=$root/docs/recipes/metaplaytopnm
@@ -20,7 +23,7 @@ each_file() {
         [ "$recipe" = "$filter" ] || "$1" "$mode" "$recipe" "share/metaplay/recipes/${recipe##*/}"
     done
     "$1" 755 "$linked/metaplaytopnm" share/metaplay/recipes/metaplaytopnm
-    for page in RECIPES.md FAULTS.md FORMATS.md PIXELS.md info.schema.json; do
+    for page in RECIPES.md FAULTS.md FIXUP.md FORMATS.md PIXELS.md fixup.png info.schema.json; do
         "$1" 644 "$root/docs/$page" "share/doc/metaplay/$page"
     done
     "$1" 644 "$root/include/metaplay.h" include/metaplay.h
@@ -96,12 +99,16 @@ install_all() {
     choose_library
     have_built || exit 3
     each_file is_free
+    each_fixup_file is_free
     is_free link - lib/libmetaplay.so
+    is_free link - bin/metaplay-fixup
     take_folder
     link_library "$linked" "$prefix" "$built" || exit 3
     sed "s|/usr/local/bin/metaplay|$prefix/bin/metaplay|" "$filter" >"$linked/metaplaytopnm" || exit 3
     each_file install_one
     ln -sfnT -- "libmetaplay.so.$interface" "$place/lib/libmetaplay.so" || exit 3
+    install_fixup
+    compile_fixup
 }
 
 # The folders that have the program's name go too, if nothing else is in them.
@@ -112,6 +119,7 @@ uninstall_all() {
     status=0
     each_file remove_one
     [ "$(readlink -- "$place/lib/libmetaplay.so")" != "libmetaplay.so.$interface" ] || remove_one link - lib/libmetaplay.so
+    remove_fixup
     rmdir -- "$place/share/metaplay/recipes" "$place/share/metaplay" "$place/share/doc/metaplay" 2>/dev/null
     [ -n "$found" ] || say "nothing was installed below $place"
     return "$status"

@@ -5,16 +5,12 @@
     packaging/make_manual.py PROGRAM --check   names each of them that isn't what it would write, and then returns 1
 """
 
-import pathlib
 import re
 import subprocess
 import sys
 from typing import NamedTuple
 
-ROOT = pathlib.Path(__file__).resolve().parent.parent
-
-FOLDER = ROOT / "packaging"
-
+from manual_texts import FOLDER, ROOT, paragraph, quoted, roff, term
 
 # The values of options that have only some; the value of any other option is a number.
 VALUES = {"profile": ["core", "print"], "allow": ["held-deletion", "emf-plus"]}
@@ -58,22 +54,6 @@ def commands(program):
             yield Command(name, about, usage, rows(section(text, "Arguments")), rows(section(text, "Options")))
 
 
-def roff(text):
-    """A text as roff(7) has it."""
-    escaped = text.replace("\\", "\\e").replace("-", "\\-")
-    return re.sub(r"(?m)^([.'])", r"\\&\1", escaped)
-
-
-def paragraph(text):
-    """A paragraph."""
-    return f".PP\n{roff(text)}\n"
-
-
-def term(name, text):
-    """A term, and what it is."""
-    return f".TP\n.B {roff(name)}\n{roff(text)}\n"
-
-
 def manual(program):
     """The manual page, in section 1."""
     text = help_of(program)
@@ -97,7 +77,7 @@ def manual(program):
     parts.append(paragraph(" ".join(more.split("FAULTS.md")[0].split())))
     parts.append(".SH FAULTS\n")
     parts += [term(name, f"{code}. {said}") for code, name, said in faults()]
-    parts.append(".SH SEE ALSO\n.BR ppm (5)\n")
+    parts.append(".SH SEE ALSO\n.BR metaplay\\-fixup (1),\n.BR ppm (5)\n")
     return "".join(parts)
 
 
@@ -140,11 +120,6 @@ _metaplay() {{
 }}
 complete -F _metaplay metaplay
 """
-
-
-def quoted(text):
-    """A text as one word of a shell."""
-    return "'" + text.replace("'", "'\\''") + "'"
 
 
 def described_option(name, about, takes):

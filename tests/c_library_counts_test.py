@@ -1,15 +1,12 @@
 """The instructions of the library for C beside those of the program: it plays in bands as high as the program's, also on a surface of many rows."""
 
 import pathlib
-import random
-import re
-import subprocess
 import tempfile
 import unittest
 
 from built import PROGRAMS, Answer, answer
 from c_library import compiled, folder, linked_show
-from metafile.scripts import WMF
+from c_library_counting import instructions, small_drawings
 
 # How many times the program's instructions a play by the library may take. It has the file's bytes at once, and copies no image to a pipe.
 MOST = 1.08
@@ -44,22 +41,6 @@ def linked_check():
     source = folder() / "check.c"
     source.write_bytes(CHECK)
     return compiled(source, "check", [folder() / "lib/libmetaplay.a"])
-
-
-def small_drawings(width, height):
-    """Small triangles all over a surface: each is painted in one band or two."""
-    chance, records = random.Random(38), WMF.records("solid_brush 0 0x206040; select 0")
-    for _ in range(10_000):
-        x, y = chance.randrange(width - 6), chance.randrange(height - 6)
-        records.append(WMF.step("polygon", x, y, x + 5, y + 1, x + 2, y + 5))
-    return WMF.file(records, (width, height), 0)
-
-
-def instructions(words):
-    """The instructions of one run, and what it writes."""
-    counted = ["valgrind", "--tool=callgrind", "--callgrind-out-file=/dev/null", *map(str, words)]
-    ended = subprocess.run(counted, env={}, capture_output=True, check=True)
-    return int(re.search(rb"Collected : (\d+)", ended.stderr)[1]), ended.stdout
 
 
 class Instructions(unittest.TestCase):

@@ -33,10 +33,15 @@ def defined():
     return {name: (int(code), lies != "") for lies, _, code, name in DEFINED.findall(text)}
 
 
+def parts():
+    """The headings of the page, each with the text below it."""
+    split = re.split(r"(?m)^## (.*)$", PAGE)
+    return list(zip(split[1::2], split[2::2], strict=True))
+
+
 def sections():
     """The rows of the page by their headings."""
-    parts = re.split(r"(?m)^## (.*)$", PAGE)
-    return {heading: ROW.findall(text) for heading, text in zip(parts[1::2], parts[2::2], strict=True)}
+    return {heading: ROW.findall(text) for heading, text in parts()}
 
 
 class Faults(unittest.TestCase):
@@ -61,8 +66,17 @@ class Faults(unittest.TestCase):
         self.assertIn("for the faults 10 to 39 and 46 to 48, the record", PAGE)
 
     def test_each_row_has_every_column(self):
-        rows = [line for line in PAGE.splitlines() if ROW.match(line)]
-        self.assertEqual([line for line in rows if not re.fullmatch(r"\|(?: [^|]+ \|){5}", line)], [])
+        # Those of a file say too whether the fix-up mends it.
+        for heading, text in parts():
+            columns = 6 if heading.startswith("The file: ") else 5
+            rows = [line for line in text.splitlines() if ROW.match(line)]
+            self.assertEqual([line for line in rows if not re.fullmatch(rf"\|(?: [^|]+ \|){{{columns}}}", line)], [])
+
+    def test_the_advice_is_to_fix_a_file_exactly_where_that_helps(self):
+        for heading, text in parts():
+            for row in (line.split(" | ") for line in text.splitlines() if ROW.match(line)):
+                if heading.startswith("The file: "):
+                    self.assertEqual(row[4].startswith("Fix the file"), row[3] != "no", row[1])
 
 
 if __name__ == "__main__":

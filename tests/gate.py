@@ -5,8 +5,8 @@
     gate.py --anew    proves everything, and tries every edit
     gate.py --record  the same, and if all passed, puts every crate on record (edits/judged.json)
 
-It runs `rt ci`. Beside it, it tries the edits of each crate as soon as the libraries below the crate are proved, and begins the tests
-over the built programs as soon as those are there.
+First it has the Debian packages installed that are missing (packages.py), or stops. Then it runs `rt ci`. Beside it, it tries the edits of each
+crate as soon as the libraries below the crate are proved, and begins the tests over the built programs as soon as those are there.
 
 `rt ci` proves crates in a chain, and leaves processors idle: the edits take those. They are the less urgent work, and give way to it.
 Where something was built before, `rt ci` has its old libraries back in the end; the edits then wait for that, and have them built anew.
@@ -24,6 +24,7 @@ from concurrent.futures import ThreadPoolExecutor
 from typing import NamedTuple
 
 import edits
+import packages
 import run
 
 # A crate is proved by this run, or an earlier one proved the same files on this machine.
@@ -199,13 +200,15 @@ def beside(clock, words, parts):
 
 
 def main():
-    """Answers the status. What is wrong with the edits or their record is said before anything runs."""
+    """Answers the status. Packages that are missing, and what is wrong with the edits or their record, are said before anything runs."""
     words = argparse.ArgumentParser(description=__doc__, formatter_class=argparse.RawDescriptionHelpFormatter)
     words.add_argument("--anew", action="store_true")
     words.add_argument("--record", action="store_true")
     asked = words.parse_args()
     is_anew = asked.anew or asked.record
     os.chdir(edits.ROOT)
+    if packages.have_installed():
+        return 1
     clock = Clock()
     parts, wrong = edits.parts_of_crates([]) if is_anew else edits.parts_on_record()
     if wrong:

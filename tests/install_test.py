@@ -12,6 +12,8 @@ import unittest
 
 import archive
 from built import DOT, DOT_IMAGE, PROGRAMS, ROOT, Answer, answer
+from fixup_files import COMPILED, FIXUP_FILES
+from launcher_folder import files_in
 
 sys.path.insert(0, str(ROOT / "packaging"))
 
@@ -19,7 +21,7 @@ from make_manual import commands, long_options, stale  # noqa: E402
 
 LAUNCHER = ROOT / "metaplay"
 
-# Where files are installed, by their places below the prefix, and whether they are programs.
+# Where the files of the program and of the library are installed, by their places below the prefix, and whether they are programs.
 INSTALLED = {
     "bin/metaplay": True,
     "share/man/man1/metaplay.1": False,
@@ -31,21 +33,20 @@ INSTALLED = {
     "lib/libmetaplay.so": False,
     "lib/libmetaplay.so.1": False,
     "lib/pkgconfig/metaplay.pc": False,
-    **dict.fromkeys((f"share/doc/metaplay/{name}" for name in ("FAULTS.md", "FORMATS.md", "PIXELS.md", "RECIPES.md", "info.schema.json")), False),
+    **dict.fromkeys((f"share/doc/metaplay/{name}" for name in ("FAULTS.md", "FIXUP.md", "FORMATS.md", "PIXELS.md", "RECIPES.md")), False),
+    **dict.fromkeys((f"share/doc/metaplay/{name}" for name in ("fixup.png", "info.schema.json")), False),
     **{f"share/metaplay/recipes/{it.name}": os.access(it, os.X_OK) for it in (ROOT / "docs/recipes").iterdir()},
 }
+
+
+# The same with those of the fix-up.
+ALL_INSTALLED = INSTALLED | FIXUP_FILES | COMPILED
 
 
 def launched(*words, **environment):
     """What the launcher answers."""
     ran = subprocess.run([LAUNCHER, *words], capture_output=True, env={**os.environ, **environment}, check=False)
     return Answer(ran.returncode, ran.stdout, ran.stderr)
-
-
-def files_in(folder):
-    """The places of the files in a folder, and whether they are programs."""
-    found = [it for it in pathlib.Path(folder).rglob("*") if it.is_file()]
-    return {str(it.relative_to(folder)): os.access(it, os.X_OK) for it in found}
 
 
 class Installation(unittest.TestCase):
@@ -62,7 +63,7 @@ class Installation(unittest.TestCase):
     def test_each_file_is_installed_and_removed(self):
         prefix = self.folder / "a b/usr"
         self.assertEqual(launched("install", str(prefix)), Answer(0, b"", b""))
-        self.assertEqual(files_in(prefix), INSTALLED)
+        self.assertEqual(files_in(prefix), ALL_INSTALLED)
         self.assertEqual(answer(prefix / "bin/metaplay", ["show", "stdin", "4", "4"], DOT), Answer(0, DOT_IMAGE, b""))
         (prefix / "bin/other").write_text("")
         self.assertEqual(launched("uninstall", str(prefix)), Answer(0, b"", b""))
@@ -108,9 +109,10 @@ class Installation(unittest.TestCase):
         self.assertEqual(launched("install", str(self.folder), CC="no-compiler -O2"), Answer(3, b"", told))
 
     def test_a_package_has_one_name(self):
-        for words in ([], ["--help"], ["a.deb", "b.deb"]):
-            ran = subprocess.run([ROOT / "packaging/make_deb", *words], cwd=self.folder, capture_output=True, check=False)
-            self.assertEqual((ran.returncode, ran.stdout, ran.stderr), (2, b"", b"usage: make_deb FILE\n"))
+        for name in ("make_deb", "make_fixup_deb"):
+            for words in ([], ["--help"], ["a.deb", "b.deb"]):
+                ran = subprocess.run([ROOT / "packaging" / name, *words], cwd=self.folder, capture_output=True, text=True, check=False)
+                self.assertEqual((ran.returncode, ran.stdout, ran.stderr), (2, "", f"usage: {name} FILE\n"))
 
     def test_installing_needs_the_tools_that_link(self):
         folder = self.folder / "tools"
@@ -132,7 +134,7 @@ class Installation(unittest.TestCase):
 
     def test_a_package_is_made_below_destdir(self):
         self.assertEqual(launched("install", "/usr/", DESTDIR=str(self.folder)), Answer(0, b"", b""))
-        self.assertEqual(files_in(self.folder / "usr"), INSTALLED)
+        self.assertEqual(files_in(self.folder / "usr"), ALL_INSTALLED)
         self.assertEqual(launched("uninstall", "/usr", DESTDIR=str(self.folder)), Answer(0, b"", b""))
         self.assertEqual(files_in(self.folder), {})
 

@@ -35,6 +35,12 @@ CRATES = {"low/src/lib.rt": "low\n", "low/proofs/Lib.antt": "proof\n", "meta_mai
 CRATES_TXT = "# The lowest.\nlow:\ntest_of_low: low\nmeta_main: low\n# For C.\nmetaplay_c staticlib: low\n"
 
 
+def files_in(folder):
+    """The places of the files in a folder, and whether they are programs."""
+    found = [it for it in pathlib.Path(folder).rglob("*") if it.is_file()]
+    return {str(it.relative_to(folder)): os.access(it, os.X_OK) for it in found}
+
+
 class Folder(unittest.TestCase):
     """A folder with the launcher, three small crates and a toolchain."""
 
@@ -89,3 +95,23 @@ class Folder(unittest.TestCase):
         status, out, err = self.call("list", "x", **how)
         self.assertEqual((status, out, self.calls()), (0, f"{text}\n", built), err)
         return err
+
+
+class InstallFolder(Folder):
+    """A folder whose launcher installs, with a library for C that has one function."""
+
+    def setUp(self):
+        super().setUp()
+        for name in ("packaging", "include", "docs", "fixup"):
+            shutil.copytree(ROOT / name, self.root / name)
+        (self.root / "metaplay-fixup").symlink_to("fixup/metaplay-fixup")
+        (self.folder / "c").mkdir()
+        for name, path in [("metaplay_none", self.kit / "archive"), ("kit_none", self.folder / "c/liblibc_c.a")]:
+            subprocess.run(["cc", "-x", "c", "-c", "-", "-o", self.kit / f"{name}.o"], input=f"void {name}(void) {{}}", text=True, check=True)
+            subprocess.run(["ar", "rcs", path, self.kit / f"{name}.o"], check=True)
+        self.prefix = self.folder / "installed"
+
+    def is_installed(self, built):
+        """Checks that an installation goes well, after builds of these crates."""
+        status, out, err = self.call("install", str(self.prefix))
+        self.assertEqual((status, out, self.calls()), (0, "", built), err)

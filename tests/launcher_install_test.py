@@ -4,27 +4,11 @@ import shutil
 import subprocess
 import unittest
 
-from built import ROOT
-from launcher_folder import Folder
+from launcher_folder import InstallFolder
 
 
-class Installing(Folder):
+class Installing(InstallFolder):
     """Installations, with a library for C that has one function."""
-
-    def setUp(self):
-        super().setUp()
-        for name in ("packaging", "include", "docs"):
-            shutil.copytree(ROOT / name, self.root / name)
-        (self.folder / "c").mkdir()
-        for name, path in [("metaplay_none", self.kit / "archive"), ("kit_none", self.folder / "c/liblibc_c.a")]:
-            subprocess.run(["cc", "-x", "c", "-c", "-", "-o", self.kit / f"{name}.o"], input=f"void {name}(void) {{}}", text=True, check=True)
-            subprocess.run(["ar", "rcs", path, self.kit / f"{name}.o"], check=True)
-        self.prefix = self.folder / "installed"
-
-    def is_installed(self, built):
-        """Checks that an installation goes well, after builds of these crates."""
-        status, out, err = self.call("install", str(self.prefix))
-        self.assertEqual((status, out, self.calls()), (0, "", built), err)
 
     def test_the_program_and_the_library_are_built_once(self):
         self.is_installed(["low", "meta_main", "low", "metaplay_c"])
@@ -65,12 +49,14 @@ class Installing(Folder):
     def test_files_of_the_user_stay_in_each_folder(self):
         self.is_installed(["low", "meta_main", "low", "metaplay_c"])
         folders = [self.prefix, *(path for path in self.prefix.rglob("*") if path.is_dir())]
-        self.assertIn(self.prefix / "share/metaplay/recipes", folders)
-        self.stay([folder / name for folder in folders for name in ("mine", ".mine", "mine.sh", "mine.md", "metaplay-mine", "libmetaplay.mine", "a *")])
+        for name in ("recipes", "fixup/metaplay_fixup/__pycache__"):
+            self.assertIn(self.prefix / "share/metaplay" / name, folders)
+        names = ("mine", ".mine", "mine.sh", "mine.md", "mine.py", "mine.pyc", "metaplay-mine", "libmetaplay.mine", "a *")
+        self.stay([folder / name for folder in folders for name in names])
 
     def test_a_lone_file_of_the_user_stays(self):
         self.is_installed(["low", "meta_main", "low", "metaplay_c"])
-        for folder in ("share/metaplay/recipes", "share/metaplay", "share/doc/metaplay"):
+        for folder in ("share/metaplay/recipes", "share/metaplay/fixup/metaplay_fixup/__pycache__", "share/metaplay", "share/doc/metaplay"):
             self.stay([self.prefix / folder / "mine"])
             (self.prefix / folder / "mine").unlink()
             self.is_installed([])

@@ -22,6 +22,16 @@ OTHERS = {
     "crates/meta_main/out/meta_main": "the built program",
     "#": "a sign of pictures",
     "?": "an operator",
+    "apt-get": "a program",
+    "apt-get install python3-freetype python3-pil": "a command line of Debian's",
+    "black": "a program",
+    "dpkg-query": "a program",
+    "flake8": "a program",
+    "mypy": "a program",
+    "mypy --strict": "a command line",
+    "py3compile": "a program of Debian's",
+    "python3-typeshed": "a package of Debian's",
+    "/usr/bin/python3": "Debian's Python",
     "Display": "a trait of the toolchain's",
     "From": "a trait of the toolchain's",
     "assert_eq!": "a macro of the toolchain's",
@@ -41,12 +51,14 @@ OTHERS = {
     "LD_LIBRARY_PATH": "ld.so(8)",
     "PKG_CONFIG_PATH": "pkg-config(1)",
     "lib": "a folder of what is installed",
+    "metaplay-fixup": "the fix-up",
     "lib/pkgconfig": "a folder of what is installed",
     "~/.local/bin": "a folder of what is installed",
     "malloc": "a call of the C library's",
     "proofs/": "a folder of each crate",
     "nm": "a program",
     "packaging/make_deb FILE": "a command of a packager",
+    "packaging/make_fixup_deb FILE": "a command of a packager",
     "python3": "a program",
     "realloc": "a call of the C library's",
     "rattle-kit-13f logic dac8208d650f15bf": "a version of the toolchain",
@@ -73,6 +85,13 @@ WORDS = {
     for word in re.findall(r'"([a-z]+)"', text)
 }
 
+# The options and the faults of the fix-up.
+FIXUP = {
+    name
+    for source, pattern in (("command_line", r'"(--[a-z-]+)"'), ("faults", r'(?m)^    (\w+) = "'))
+    for name in re.findall(pattern, (ROOT / "fixup" / "metaplay_fixup" / f"{source}.py").read_text(encoding="utf-8"))
+}
+
 
 def text_of(page):
     """The text of a page."""
@@ -83,14 +102,14 @@ def files_known():
     """The files that a page may name alone, or by their place in a crate, and mutants, whose names are those of files."""
     crates = [path for part in ("src", "specs", "proofs") for folder in (ROOT / "crates").glob(f"*/{part}") for path in folder.rglob("*")]
     names = {it.name for it in crates} | {"/".join(it.parts[-2:]) for it in crates}
-    others = {it.name for folder in ("samples", "tests", "docs") for it in (ROOT / folder).rglob("*")}
+    others = {it.name for folder in ("samples", "tests", "docs", "fixup") for it in (ROOT / folder).rglob("*")}
     return names | others | {it.stem for it in (ROOT / "edits").glob("*/*.edit")}
 
 
 def is_known(name, files):
     """Whether a word of a page is a name of the sources or definitions, or of a file."""
     plain = re.sub(r"<.*>", "", name)
-    if name in OTHERS or name in WORDS or TOLD.match(name) or plain in {*CRATES, *sum(libraries().values(), [])}:
+    if name in OTHERS or name in WORDS or name in FIXUP or TOLD.match(name) or plain in {*CRATES, *sum(libraries().values(), [])}:
         return True
     if re.fullmatch(r"\w+::\w+", plain):
         owner, member = plain.split("::")

@@ -103,8 +103,8 @@ def undone(way, row, above, step):
     return bytes(made)
 
 
-class Recipes(unittest.TestCase):
-    """Each recipe on a file that is shown and on one that is refused."""
+class RecipesTest(unittest.TestCase):
+    """Tests of recipes, in a folder of their own."""
 
     def setUp(self):
         """A folder with the program by its name, and files."""
@@ -116,11 +116,16 @@ class Recipes(unittest.TestCase):
         (self.folder / "held file.wmf").write_bytes(HELD.read_bytes())
         self.settings = {**os.environ, "PATH": f"{self.folder}:{os.environ['PATH']}"}
         self.settings.pop("METAPLAY", None)
+        self.settings.pop("METAPLAY_FIXUP", None)
 
     def run_words(self, *words, given=b"", **settings):
         """What a command answers in that folder."""
         ended = subprocess.run(words, input=given, capture_output=True, cwd=self.folder, env=self.settings | settings, timeout=120)
         return ended.returncode, ended.stdout, ended.stderr
+
+
+class Recipes(RecipesTest):
+    """Each recipe on a file that is shown and on one that is refused."""
 
     @needs("pnmtopng")
     def test_to_png(self):
@@ -132,7 +137,7 @@ class Recipes(unittest.TestCase):
         self.assertEqual(self.run_words(RECIPES / "to-png", "held file.wmf", "4", "4"), (1, b"", HELD_LINE))
         shutil.copy(self.folder / "dot.wmf", self.folder / "-x")
         self.assertEqual(self.run_words(RECIPES / "to-png", "-x", "4", "4"), (0, out, b""))
-        self.assertEqual(self.run_words(RECIPES / "to-png", "dot.wmf", "4"), (2, b"", b"usage: to-png FILE W H\n"))
+        self.assertEqual(self.run_words(RECIPES / "to-png", "dot.wmf", "4"), (2, b"", b"usage: to-png FILE W H [OPTION...]\n"))
         status, out, _ = self.run_words(RECIPES / "to-png", "dot.wmf", "4", "4", TMPDIR="/no folder")
         self.assertEqual((status, out), (3, b""))
 

@@ -5,12 +5,14 @@
 - what all know: `faults`, `options`, and `text`, which `layer` implements
 - numbers: `fixed`, `affine`, `singles`, `angles`, `curves`, `rounds`, `shapes`
 - strokes: `pens`, `dashes`, `caps`, `joins`, `stroke_shapes`
-- records and files: `records` with its tables `emf_kinds` and `wmf_kinds`, `reader`
-- the playing state: `objects`, `slots`, `worlds`, `viewports`, `extents`, `clips`, `paths`, `doubts`, `state`
+- records and files: `records` with its tables `emf_kinds` and `wmf_kinds`, `reader`, `emf_plus`
+- the playing state: `objects`, `palettes`, `slots`, `worlds`, `viewports`, `extents`, `clips`, `paths`, `doubts`,
+  `state`
 - bitmaps: `pictures`, `channels`, `compressed`, `bitmaps`, `blends`, `sources`
 - fonts: `faces` over FreeType, `fonts`, `composites`, `catalogue`, `families`, `adobe_symbol`, `choice`
 - outlines: `outlines`, `flattening`, `glyph_shapes`
-- text: `charsets`, `scripts`, `metrics`, `face_metrics`, `glyphs`, `layout`, `text_boxes`, `layer`
+- text: `charsets`, `scripts`, `metrics`, `face_metrics`, `glyphs`, `layout`, `text_lines`, `text_boxes`,
+  `layer`
 - the output: `output`, `marks`, `budgets`
 - blocks: `text_blocks`, `emf_blocks`, `wmf_blocks`
 - what happens to each record: `session`, `steps`, and the modules that begin with `emf` and `wmf`

@@ -7,11 +7,11 @@ from dataclasses import dataclass
 from .channels import Masks, channel_of, expanded
 from .compressed import decoded_image, decoded_runs
 from .faults import Fault, FaultName
-from .objects import Palette
+from .palettes import NO_USE, Palette, PaletteUse
 from .pictures import Picture, joined, stored
 from .records import numbers_at
 
-__all__ = ["Dib", "plays_as_stored", "read_dib", "read_picture", "stored"]
+__all__ = ["Dib", "bitmap_use", "plays_as_stored", "read_dib", "read_picture", "stored"]
 
 _CORE, _INFO = 12, 40
 _PLAYED_HEADERS = (40, 108, 124)
@@ -161,9 +161,27 @@ def _table(dib: Dib, header: bytes, usage: int, palette: Palette) -> list[tuple[
 
 
 def _palette_table(indexes: tuple[int, ...], palette: Palette) -> list[tuple[int, int, int]]:
-    if any(index >= len(palette.colours) for index in indexes):
+    return [(blue, green, red) for _, (red, green, blue) in _found(indexes, palette).colours]
+
+
+def bitmap_use(header: bytes, usage: int, palette: Palette) -> PaletteUse:
+    """What a bitmap takes from a palette: each entry of its table, if that has indexes.
+
+    Raises Fault as `read_picture` does.
+    """
+    dib = read_dib(header)
+    if usage != _PALETTE_COLOURS or dib.depth > 8 or dib.is_file:
+        return NO_USE
+    return _found(numbers_at(header, dib.header_size, dib.colours, "H"), palette)
+
+
+def _found(indexes: tuple[int, ...], palette: Palette) -> PaletteUse:
+    """Indexes with their colours."""
+    found = [(index, palette.colour(index)) for index in indexes]
+    colours = tuple((index, colour) for index, colour in found if colour is not None)
+    if len(colours) < len(found):
         raise Fault(FaultName.PaletteColour, "a bitmap's table goes beyond the palette")
-    return [(blue, green, red) for red, green, blue in (palette.colours[index] for index in indexes)]
+    return PaletteUse(colours)
 
 
 def _masked(dib: Dib, header: bytes, rows: bytes) -> Picture:

@@ -38,7 +38,7 @@ def _parts(byte: int, depth: int) -> bytes:
 def channel_of(rows: bytes, depth: int, mask: int) -> bytes:
     """A byte from 0 to 255 for each pixel of 16 or 32 bits: the bits under a mask.
 
-    Raises Fault BadDib if they aren't next to each other.
+    Raises Fault BadDib if they aren't next to each other, or beyond the pixel.
     """
     count = len(rows) * 8 // depth
     if mask == 0:

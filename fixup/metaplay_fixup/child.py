@@ -6,9 +6,11 @@ import os
 import resource
 import signal
 from collections.abc import Callable
+from contextlib import suppress
 from dataclasses import dataclass
 from typing import NoReturn
 
+from .signals import end_at_once, held
 from .statuses import Ending, Status, out_of_memory
 
 _LONGEST_LINE = 4096
@@ -31,20 +33,26 @@ def run_limited(work: Callable[[], None], limits: Limits) -> None:
     """
     line = os.memfd_create("line", os.MFD_CLOEXEC)
     try:
-        child = os.fork()
-        if child == 0:
-            _work_and_exit(work, limits, line)
-        _raise_ending(_code_of(child), line)
+        # A signal between the fork and the wait would leave the process behind, or run this program's code in it.
+        with held() as let_in:
+            child = os.fork()
+            if child == 0:
+                _work_and_exit(work, limits, line, let_in)
+            code = _code_of(child, let_in)
+        _raise_ending(code, line)
     finally:
         os.close(line)
 
 
-def _code_of(child: int) -> int:
-    """Waits for a process. It goes too if this one is interrupted."""
+def _code_of(child: int, let_in: Callable[[], None]) -> int:
+    """Lets signals in, and waits for a process. It goes too if this one is interrupted."""
     try:
+        let_in()
         return os.waitstatus_to_exitcode(os.waitpid(child, 0)[1])
     except BaseException:
-        os.kill(child, signal.SIGKILL)
+        # It may be over already.
+        with suppress(ProcessLookupError):
+            os.kill(child, signal.SIGKILL)
         raise
 
 
@@ -62,11 +70,12 @@ def _raise_ending(code: int, line: int) -> None:
     raise Ending(Status.REJECTED, f"Crashed (signal {-code})")
 
 
-def _work_and_exit(work: Callable[[], None], limits: Limits, line: int) -> NoReturn:
+def _work_and_exit(work: Callable[[], None], limits: Limits, line: int, let_in: Callable[[], None]) -> NoReturn:
     """Does the work and ends the process, whatever happens."""
     ending = Ending(Status.DONE, "")
     try:
         _set_limits(limits)
+        let_in()
         work()
     except Ending as raised:
         ending = raised
@@ -86,6 +95,7 @@ def _set_limits(limits: Limits) -> None:
     # These end the process, whatever the caller has set.
     for ends in (signal.SIGXCPU, signal.SIGINT):
         signal.signal(ends, signal.SIG_DFL)
+    end_at_once()
     # A second more for the kernel's own end, which comes if the signal of the first is held up.
     _limit(resource.RLIMIT_CPU, limits.seconds, limits.seconds + 1)
     _limit(resource.RLIMIT_AS, limits.memory, limits.memory)

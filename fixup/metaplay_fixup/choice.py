@@ -58,8 +58,10 @@ class FontChooser:
     def choose(self, request: LogicalFont) -> ChosenFont:
         """The font for a face, by --map, by its own name, by the table, by --instead.
 
-        Raises Fault with MissingFont if there is none, with MissingBold if a bold face's family has no bold one, with
-        VerticalFace for vertical writing, and with BadFont or EmbeddingNotAllowed if the font can't be used.
+        Where the family of a bold face has no bold font, the first one of equal widths that has one serves.
+
+        Raises Fault with MissingFont if there is none, with MissingBold if a bold face's families have no bold one,
+        with VerticalFace for vertical writing, and with BadFont or EmbeddingNotAllowed if the font can't be used.
         """
         if request not in self._chosen:
             self._chosen[request] = self._found(request)
@@ -71,13 +73,18 @@ class FontChooser:
 
     def _found(self, request: LogicalFont) -> ChosenFont:
         style = _Style(request.weight > _BOLD_WEIGHT, request.italic)
+        is_found = False
         for candidate in self._candidates(request):
             files = self._catalogue.named(candidate.family)
-            if files:
-                file = _file_of(files, style)
-                if file is None:
-                    raise Fault(FaultName.MissingBold, request.face)
-                return self._opened(file, style, candidate.choice)
+            # Only a family of equal widths takes the place of one that has no bold.
+            if not files or (is_found and candidate.choice is not Choice.TABLE):
+                continue
+            file = _file_of(files, style)
+            if file is not None:
+                return self._opened(file, request, candidate.choice)
+            is_found = True
+        if is_found:
+            raise Fault(FaultName.MissingBold, request.face)
         raise Fault(FaultName.MissingFont, request.face or "no face is named")
 
     def fallbacks(self, request: LogicalFont) -> Iterator[ChosenFont]:
@@ -89,7 +96,7 @@ class FontChooser:
         for family in () if _has_signs(request) else self._rules.fallbacks:
             file = _file_of(self._catalogue.named(family), style)
             if file is not None:
-                yield self._opened(file, style, Choice.INSTEAD)
+                yield self._opened(file, request, Choice.INSTEAD)
 
     def _candidates(self, request: LogicalFont) -> list[_Candidate]:
         face = request.face.lower()
@@ -104,10 +111,16 @@ class FontChooser:
             candidates.append(_Candidate(self._rules.instead, Choice.INSTEAD))
         return candidates
 
-    def _opened(self, file: FontFile, style: _Style, choice: Choice) -> ChosenFont:
-        if file not in self._fonts:
-            self._fonts[file] = Font(file)
-        return ChosenFont(self._fonts[file], choice, style.is_italic and not file.is_italic)
+    def _opened(self, file: FontFile, request: LogicalFont, choice: Choice) -> ChosenFont:
+        """The font of a file. Raises Fault as Font does, and names the face unless it is the font's family."""
+        try:
+            if file not in self._fonts:
+                self._fonts[file] = Font(file)
+        except Fault as fault:
+            if request.face.lower() == file.family.lower():
+                raise
+            raise Fault(fault.name, f"{fault.detail}, for {request.face}") from fault
+        return ChosenFont(self._fonts[file], choice, request.italic and not file.is_italic)
 
 
 def _file_of(files: tuple[FontFile, ...], style: _Style) -> FontFile | None:

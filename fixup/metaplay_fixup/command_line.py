@@ -11,6 +11,7 @@ from typing import NamedTuple, NoReturn
 
 from .charsets import code_page_named
 from .choice import FontRules
+from .help_texts import ABOUT, GUIDE, USAGE
 from .options import LARGEST_BOUND, AlphaRule, Options
 from .statuses import PROGRAM
 
@@ -18,13 +19,6 @@ STANDARD_INPUT = "stdin"
 """The name of FILE that means standard input."""
 
 _VERIFY = "--verify"
-_USAGE = f"""{PROGRAM} FILE OUT --fonts DIR... [OPTIONS]
-       {PROGRAM} --out-dir DIR FILE... --fonts DIR... [OPTIONS]
-       {PROGRAM} --verify ORIGINAL FILE [--text-only]"""
-_ABOUT = (
-    "Replaces each record of a Windows metafile (WMF, EMF) that metaplay rejects by records that its print profile "
-    "plays, and writes a file of the same format."
-)
 
 
 class WrongUsage(Exception):
@@ -105,8 +99,7 @@ def read_command_line(words: Sequence[str]) -> CommandLine | Verification | Extr
     works = _folder_works(given) if given.out_dir is not None else _single_work(given)
     if given.allow and given.check is None:
         raise WrongUsage("--allow needs --check")
-    if given.strokes and given.text_only:
-        raise WrongUsage("--text-only leaves strokes as they are")
+    _check_text_only(given)
     return CommandLine(
         works=works,
         is_folder=given.out_dir is not None,
@@ -125,9 +118,17 @@ def read_command_line(words: Sequence[str]) -> CommandLine | Verification | Extr
     )
 
 
+def _check_text_only(given: argparse.Namespace) -> None:
+    """Raises WrongUsage for options that would do nothing where only text is replaced."""
+    others = {"--strokes": given.strokes, "--drop-emf-plus": given.drop_emf_plus, "--alpha": given.alpha}
+    for option, is_given in others.items():
+        if given.text_only and is_given:
+            raise WrongUsage(f"{option} doesn't go with --text-only, which leaves all but text as it is")
+
+
 def _verification(words: Sequence[str]) -> Verification | Extra:
     """What words with --verify ask for, which no other option but --text-only goes with. Raises WrongUsage."""
-    parser = _Parser(prog=PROGRAM, usage=_USAGE, add_help=False, allow_abbrev=False)
+    parser = _Parser(prog=PROGRAM, usage=USAGE, add_help=False, allow_abbrev=False)
     _add_verify(parser)
     _add_text_only(parser)
     _add_extras(parser)
@@ -160,15 +161,35 @@ class _Parser(argparse.ArgumentParser):
 
 
 def _parser() -> argparse.ArgumentParser:
-    parser = _Parser(prog=PROGRAM, usage=_USAGE, description=_ABOUT, add_help=False, allow_abbrev=False)
+    parser = _Parser(
+        prog=PROGRAM,
+        usage=USAGE,
+        description=ABOUT,
+        epilog=GUIDE,
+        formatter_class=argparse.RawDescriptionHelpFormatter,
+        add_help=False,
+        allow_abbrev=False,
+    )
     add = parser.add_argument
     add("names", nargs="*", metavar="FILE", help="the metafile, or the word stdin; then OUT, the file to write")
     add("--out-dir", type=Path, metavar="DIR", help="convert each FILE into a file of the same name in this folder")
     add("--report", type=Path, metavar="FILE", help="write a line of JSON for each replaced record and each file")
     _add_fonts(parser)
     _add_rules(parser)
-    add("--check", nargs=2, type=_side, metavar=("W", "H"), help="reject a result that metaplay won't certify")
-    add("--allow", action="append", default=[], choices=["held-deletion", "emf-plus"], help="with --check")
+    add(
+        "--check",
+        nargs=2,
+        type=_side,
+        metavar=("W", "H"),
+        help="reject a result that metaplay won't certify at this size",
+    )
+    add(
+        "--allow",
+        action="append",
+        default=[],
+        choices=["held-deletion", "emf-plus"],
+        help="with --check: also accept this",
+    )
     _add_verify(parser)
     _add_extras(parser)
     return parser
@@ -192,11 +213,19 @@ def _add_extras(parser: argparse.ArgumentParser) -> None:
 
 def _add_fonts(parser: argparse.ArgumentParser) -> None:
     add = parser.add_argument
-    add("--fonts", nargs="+", action="extend", type=Path, default=[], metavar="DIR", help="folders of fonts")
+    add(
+        "--fonts",
+        nargs="+",
+        action="extend",
+        type=Path,
+        default=[],
+        metavar="DIR",
+        help="folders of fonts, with all below",
+    )
     add("--map", action="append", type=_map, default=[], metavar="FACE=FAMILY", help="the family for a face")
     add("--instead", metavar="FAMILY", help="the family for each face that has none")
     add("--fallback", action="append", default=[], metavar="FAMILY", help="a family for glyphs that a font hasn't")
-    add("--code-page", type=_code_page, default="1252", metavar="N", help="that of charset 1 (1252)")
+    add("--code-page", type=_code_page, default="1252", metavar="N", help="the code page of text in charset 1 (1252)")
 
 
 def _add_rules(parser: argparse.ArgumentParser) -> None:

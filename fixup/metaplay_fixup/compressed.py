@@ -5,8 +5,6 @@ from __future__ import annotations
 import io
 import warnings
 
-from PIL import Image
-
 from .faults import Fault, FaultName
 from .pictures import Picture, joined
 
@@ -28,6 +26,9 @@ def decoded_image(data: bytes, form: str, most_pixels: int) -> Picture:
 
 
 def _opened_image(data: bytes, form: str, most_pixels: int) -> Picture:
+    # Imported here since hardly any file needs it, and each start of the command would wait for it.
+    from PIL import Image
+
     with Image.open(io.BytesIO(data), formats=[form]) as image:
         width, height = image.size
         if width * height > most_pixels:

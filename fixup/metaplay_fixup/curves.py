@@ -55,13 +55,19 @@ class Cubic(NamedTuple):
         longest = max(map(_length_above, bends))
         return _chords(3 * longest, 4 * tolerance, 1)
 
-    def point(self, step: int, steps: int) -> Point:
-        """The point at step / steps of the curve, rounded to the nearest."""
-        rest = steps - step
-        weights = (rest**3, 3 * rest**2 * step, 3 * rest * step**2, step**3)
-        x = sum(weight * point.x for weight, point in zip(weights, self))
-        y = sum(weight * point.y for weight, point in zip(weights, self))
-        return Point(rounded_quotient(x, steps**3), rounded_quotient(y, steps**3))
+    def points(self, steps: int) -> list[Point]:
+        """The points at 1 / steps, 2 / steps and so on, without the curve's ends, rounded to the nearest."""
+        xs, ys = (_on_cubic((one, two, three, four), steps) for one, two, three, four in zip(*self))
+        return list(map(Point, xs, ys))
+
+
+def _on_cubic(places: tuple[int, int, int, int], steps: int) -> list[int]:
+    """The same on one axis: a polynomial of the step over the cube of the steps, whose half is added for rounding."""
+    one, two, three, four = places
+    cube = steps**3
+    third, second = 2 * (four - 3 * three + 3 * two - one), 6 * steps * (three - 2 * two + one)
+    first, start = 6 * steps**2 * (two - one), (2 * one + 1) * cube
+    return [(((third * step + second) * step + first) * step + start) // (2 * cube) for step in range(1, steps)]
 
 
 def _second_difference(one: Point, two: Point, three: Point) -> Point:
@@ -79,7 +85,7 @@ def flattened(start: Point, rest: Sequence[Point], budget: Budget) -> list[Point
         curve = Cubic(start, rest[at], rest[at + 1], rest[at + 2])
         count = curve.chords(budget.tolerance)
         budget.take_points(count)
-        ends += [curve.point(step, count) for step in range(1, count)]
+        ends += curve.points(count)
         ends.append(curve.end)
         start = curve.end
     return ends

@@ -6,7 +6,7 @@ from collections.abc import Mapping
 from enum import Enum
 
 from .faults import Fault, FaultName
-from .text import OPAQUE, OPAQUE_BOX, UPDATE_POSITION
+from .text import UPDATE_POSITION
 
 
 class Part(Enum):
@@ -15,8 +15,6 @@ class Part(Enum):
     MAP = "map"
     WORLD = "world"
     POSITION = "position"
-    TEXT_COLOUR = "text colour"
-    BACKGROUND = "background"
 
 
 SET_IN_STEPS = {Part.MAP, Part.WORLD}
@@ -30,7 +28,6 @@ Doubts = Mapping[Part, Fault]
 _UNFOLLOWED = {
     FaultName.MetricMode,
     FaultName.OffPlane,
-    FaultName.PaletteColour,
     FaultName.TooManyEdges,
     FaultName.Unsupported,
 }
@@ -48,13 +45,8 @@ def settled(doubts: Doubts, part: Part) -> Doubts:
     return {other: fault for other, fault in doubts.items() if other is not part} if part in doubts else doubts
 
 
-def check_text(doubts: Doubts, align: int, background_mode: int, options: int) -> None:
-    """Raises the fault of the record that has set a part which a text of these settings and options needs."""
-    needed = [Part.MAP, Part.WORLD, Part.TEXT_COLOUR]
-    if align & UPDATE_POSITION:
-        needed.append(Part.POSITION)
-    if background_mode == OPAQUE or options & OPAQUE_BOX:
-        needed.append(Part.BACKGROUND)
-    for part in needed:
+def check_text(doubts: Doubts, align: int) -> None:
+    """Raises the fault of the record that has set a part which a text of this alignment needs."""
+    for part in (Part.MAP, Part.WORLD, *([Part.POSITION] if align & UPDATE_POSITION else [])):
         if part in doubts:
             raise doubts[part]

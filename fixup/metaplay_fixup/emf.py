@@ -51,6 +51,8 @@ HANDLERS: dict[int, Handler] = {
     47: emf_drawings.pie,
     48: emf_objects.select_palette,
     49: emf_objects.create_palette,
+    50: emf_objects.set_palette_entries,
+    51: emf_objects.resize_palette,
     54: emf_drawings.line_to,
     55: emf_drawings.arc_to,
     57: emf_state.arc_direction,
@@ -103,9 +105,10 @@ _MOVES: dict[int, Handler] = {
 _PARTS = {
     **dict.fromkeys((17, 31, 32), Part.MAP),
     **dict.fromkeys((35, 36), Part.WORLD),
-    24: Part.TEXT_COLOUR,
-    25: Part.BACKGROUND,
     **dict.fromkeys((*_MOVES, 41, 56, 92), Part.POSITION),
 }
 
-EMF_STEPS = Steps(HANDLERS, frozenset(_UNSUPPORTED), frozenset(_TEXTS), frozenset(_DRAWINGS), _MOVES, _PARTS)
+# Records that draw with the pen, the brush or the background, whose colours the output has as they were taken.
+_PAINTED = frozenset((*_DRAWINGS - {15, 114, 116}, 5, 6, 54, 55, 62, 63, 64, 88, 89))
+
+EMF_STEPS = Steps(HANDLERS, frozenset(_UNSUPPORTED), frozenset(_TEXTS), frozenset(_DRAWINGS), _MOVES, _PARTS, _PAINTED)

@@ -6,13 +6,14 @@ import struct
 from collections.abc import Sequence
 from dataclasses import dataclass
 from enum import Enum
+from itertools import chain
 
 from .affine import Point
 from .emf_kinds import EMF
 from .faults import Fault, FaultName
 from .fixed import FRACTION_BITS, ONE, rounded_quotient
 from .records import Fields
-from .shapes import bounds, check_count, without_repeats
+from .shapes import bounds, check_count, fixed_bounds, parted
 from .text import Box
 
 # The print profile divides a unit of the frame into at most 4,096 parts, and the longer side of the frame into at most
@@ -63,12 +64,24 @@ class Grid:
 
         Raises Fault OffPlane if it is too far out.
         """
-        reach = _PLANE << FRACTION_BITS
-        off_x, off_y = (place - (side << FRACTION_BITS) for place, side in zip(point, self.corner))
-        if max(abs(off_x), abs(off_y)) * self.plane_parts > reach:
+        ((x, y),) = self.placed([point], origin)
+        return Point(x, y)
+
+    def placed(self, points: Sequence[Point], origin: Point) -> list[tuple[int, int]]:
+        """The same for a list of points, of which there is at least one."""
+        self.check(fixed_bounds(points))
+        # The parts are a power of two, so a point is rounded by a shift.
+        shift = FRACTION_BITS + 1 - self.parts.bit_length()
+        half = 1 << (shift - 1)
+        left, top = half - (origin.x << FRACTION_BITS), half - (origin.y << FRACTION_BITS)
+        return [((x + left) >> shift, (y + top) >> shift) for x, y in points]
+
+    def check(self, box: Box) -> None:
+        """Raises Fault OffPlane if a fixed box is too far out."""
+        left, top = self.corner.x << FRACTION_BITS, self.corner.y << FRACTION_BITS
+        offsets = (box.left - left, box.right - left, box.top - top, box.bottom - top)
+        if max(abs(offset) for offset in offsets) * self.plane_parts > _PLANE << FRACTION_BITS:
             raise Fault(FaultName.OffPlane)
-        x, y = ((place - (side << FRACTION_BITS)) * self.parts for place, side in zip(point, origin))
-        return Point(rounded_quotient(x, ONE), rounded_quotient(y, ONE))
 
     def clip_corner(self, point: Point) -> Point:
         """A corner of a clip in parts, counted from the frame's corner; one far outside of the frame is moved
@@ -114,15 +127,14 @@ def origin_near(point: Point) -> Point:
 def lines_record(grid: Grid, lines: Lines, lists: Sequence[Sequence[Point]], origin: Point) -> list[bytes]:
     """The record that draws lists of fixed device points in a block, or none if no list has two points that differ."""
     check_count(lists)
-    is_closed = lines is Lines.CLOSED
-    placed = [without_repeats([grid.units(point, origin) for point in points], is_closed) for points in lists]
-    placed = [points for points in placed if len(points) > 1]
+    points = list(chain.from_iterable(lists))
+    placed = parted(grid.placed(points, origin), lists, lines is Lines.CLOSED) if points else []
     if not placed:
         return []
-    numbers = [number for points in placed for point in points for number in point]
+    numbers = list(chain.from_iterable(chain.from_iterable(placed)))
     is_short = min(numbers) >= -0x8000 and max(numbers) <= 0x7FFF
     rest = struct.pack(f"<{len(numbers)}{'h' if is_short else 'i'}", *numbers)
-    box = bounds(point for points in lists for point in points)
+    box = bounds(points)
     one, several = lines.value[is_short], lines.value[2 + is_short]
     if len(placed) == 1:
         return [EMF.named(one).write(*box, len(placed[0]), rest=rest)]

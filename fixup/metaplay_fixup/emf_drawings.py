@@ -8,8 +8,8 @@ from . import emf_strokes
 from .affine import Point
 from .curves import flattened
 from .emf_session import EmfSession
-from .objects import colour_word, read_colour
 from .output import Action
+from .palettes import colour_word, read_colour
 from .rounds import PageBox
 from .shapes import Figure, corners_of
 from .text import Box

@@ -1,40 +1,30 @@
-"""Records of EMF that make, select and delete objects ([MS-EMF] 2.3.7, 2.3.8)."""
+"""Records of EMF that make, select, change and delete objects ([MS-EMF] 2.3.7, 2.3.8)."""
 
 from __future__ import annotations
 
-from .bitmaps import plays_as_stored, stored
+from .bitmaps import bitmap_use, plays_as_stored, stored
 from .emf_session import EmfSession
 from .faults import Fault, FaultName
-from .objects import (
-    FIRST_STOCK,
-    NO_PALETTE,
-    Brush,
-    Palette,
-    Pen,
-    logical_font,
-    read_colour,
-    read_palette,
-    stock_object,
-)
+from .objects import FIRST_STOCK, Brush, Object, Pen, logical_font, stock_object
 from .output import Action
+from .palettes import NO_USE, STOCK_PALETTE, Palette, PaletteUse, entries_at, read_colour, read_palette
 from .pens import PenLook, extended_pen, is_user_style, older_pen
-from .records import numbers_at
+from .records import Fields, numbers_at
 from .text import LogicalFont
 
 _NULL_PEN = 5
 _SOLID_BRUSH, _NULL_BRUSH = 0, 1
 _GEOMETRIC = 0x10000
 _FACE_AT, _FACE_LENGTH = 40, 32
-_PALETTE_AT = 16
 
 
 def select(session: EmfSession) -> None:
     """EMR_SELECTOBJECT."""
-    index = session.fields["index"]
-    found = stock_object(index) if index >= FIRST_STOCK else session.objects.get(index)
-    state = session.state
+    found, state = _object(session, session.fields["index"]), session.state
     if isinstance(found, Pen):
         state.pen = found
+    elif isinstance(found, Brush):
+        state.brush = found
     elif isinstance(found, LogicalFont):
         state.font = found
     session.keep()
@@ -42,36 +32,41 @@ def select(session: EmfSession) -> None:
 
 def select_palette(session: EmfSession) -> None:
     """EMR_SELECTPALETTE."""
-    index = session.fields["index"]
-    found = stock_object(index) if index >= FIRST_STOCK else session.objects.get(index)
+    found = _object(session, session.fields["index"])
     if isinstance(found, Palette):
         session.state.palette = found
     session.keep()
 
 
+def _object(session: EmfSession, index: int) -> Object | None:
+    return stock_object(index) if index >= FIRST_STOCK else session.objects.get(index)
+
+
 def delete(session: EmfSession) -> None:
-    """EMR_DELETEOBJECT."""
-    session.objects.pop(session.fields["index"], None)
-    session.keep()
+    """EMR_DELETEOBJECT. One of nothing, or of a stock object, does nothing, and is left out: the checker rejects it."""
+    if session.objects.pop(session.fields["index"], None) is None:
+        session.replace(Action.DELETION)
+    else:
+        session.keep()
 
 
 def create_pen(session: EmfSession) -> None:
     """EMR_CREATEPEN."""
     fields = session.fields
     is_null = fields["style"] & 15 == _NULL_PEN
-    data = _with_colour(session, is_null)
+    use, data = _keep(session, is_null)
     look = None if is_null else _look(session, data)
-    session.make(fields["index"], Pen(abs(fields["width"]), is_null, data, look))
+    session.make(fields["index"], Pen(abs(fields["width"]), is_null, data, look, use))
 
 
 def create_long_pen(session: EmfSession) -> None:
     """EMR_EXTCREATEPEN. Only geometric pens have a width."""
     fields = session.fields
     is_null = fields["style"] & 15 == _NULL_PEN or fields["brush_style"] == _NULL_BRUSH
-    data = _with_colour(session, is_null)
+    use, data = _keep(session, is_null)
     width = fields["width"] if fields["style"] & _GEOMETRIC else 0
     look = None if is_null or fields["brush_style"] != _SOLID_BRUSH else _look(session, data)
-    session.make(fields["index"], Pen(width, is_null, data, look))
+    session.make(fields["index"], Pen(width, is_null, data, look, use))
 
 
 def _look(session: EmfSession, data: bytes) -> PenLook | None:
@@ -80,29 +75,31 @@ def _look(session: EmfSession, data: bytes) -> PenLook | None:
         return None
     kind = session.kind_at_hand
     style, width, reference = kind.read(data).several("style", "width", "colour")
-    colour = read_colour(reference, NO_PALETTE)
+    colour = read_colour(reference, STOCK_PALETTE)
     if kind.name == "EMR_CREATEPEN":
         return older_pen(style, width, colour)
     count = kind.read(data)["entries"] if is_user_style(style) else 0
     return extended_pen(style, width, colour, numbers_at(data, kind.end, count, "I"))
 
 
-def _with_colour(session: EmfSession, is_null: bool) -> bytes:
-    """Keeps the record at hand, or replaces its colour if that is one of the palette; gives what stands in the
-    output.
+def _keep(session: EmfSession, is_null: bool) -> tuple[PaletteUse, bytes]:
+    """Keeps the record at hand, or replaces its colour if that is one of the palette.
+
+    Gives what was taken from the palette, and what stands in the output.
     """
+    use = NO_USE
     if is_null:
         session.keep()
     else:
-        session.keep_with_colour()
-    return session.output.entries[-1].records[0]
+        use = session.keep_with_colour()
+    return use, session.output.entries[-1].records[0]
 
 
 def create_brush(session: EmfSession) -> None:
     """EMR_CREATEBRUSHINDIRECT."""
     fields = session.fields
-    _with_colour(session, fields["style"] == _NULL_BRUSH)
-    session.make(fields["index"], Brush())
+    use, _ = _keep(session, fields["style"] == _NULL_BRUSH)
+    session.make(fields["index"], Brush(use))
 
 
 def create_bitmap_brush(session: EmfSession) -> None:
@@ -115,6 +112,7 @@ def create_bitmap_brush(session: EmfSession) -> None:
         session.keep()
         return
     picture = session.picture(header, bits, usage)
+    session.make(fields["index"], Brush(bitmap_use(header, usage, session.state.palette)))
     header, bits = stored(picture)
     numbers = (fields["index"], 0, 32, len(header), 32 + len(header), len(bits))
     session.replace(Action.BITMAP, [session.write("EMR_CREATEDIBPATTERNBRUSHPT", *numbers, rest=header + bits)])
@@ -138,8 +136,31 @@ def bitmap_parts(session: EmfSession) -> tuple[bytes, bytes]:
 def create_palette(session: EmfSession) -> None:
     """EMR_CREATEPALETTE."""
     fields = session.fields
-    session.make(fields["index"], read_palette(session.data, _PALETTE_AT, fields["entries"]))
+    session.make(fields["index"], read_palette(session.data, session.kind_at_hand.end, fields["entries"]))
     session.keep()
+
+
+def set_palette_entries(session: EmfSession) -> None:
+    """EMR_SETPALETTEENTRIES, of the palette of an index."""
+
+    def change(fields: Fields) -> None:
+        found = _object(session, fields["index"])
+        entries = entries_at(session.data, session.kind_at_hand.end, fields["entries"])
+        if isinstance(found, Palette):
+            found.set_entries(fields["start"], entries)
+
+    session.keep_palette_change(change)
+
+
+def resize_palette(session: EmfSession) -> None:
+    """EMR_RESIZEPALETTE."""
+
+    def change(fields: Fields) -> None:
+        found = _object(session, fields["index"])
+        if isinstance(found, Palette):
+            found.resize(fields["entries"])
+
+    session.keep_palette_change(change)
 
 
 def create_font(session: EmfSession) -> None:

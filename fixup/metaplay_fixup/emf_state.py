@@ -6,10 +6,10 @@ from dataclasses import replace
 
 from .affine import Point
 from .doubts import Part, settled
+from .emf_plus import is_emf_plus
 from .emf_session import EmfSession
 from .extents import scaled_extent
 from .faults import Fault, FaultName
-from .objects import read_colour
 from .output import Action
 from .pens import read_miter_limit
 from .state import ANISOTROPIC, ISOTROPIC, TEXT_MODE
@@ -22,8 +22,6 @@ _LARGEST_DEVICE = 65535
 
 # The mode of EMR_MODIFYWORLDTRANSFORM that takes another world whatever there was ([MS-EMF] 2.1.24).
 _SETS_WORLD = 4
-
-_COMMENT_AT, _EMF_PLUS = 12, b"EMF+"
 
 
 def _is_scaled(session: EmfSession) -> bool:
@@ -137,14 +135,14 @@ def text_align(session: EmfSession) -> None:
 
 def text_colour(session: EmfSession) -> None:
     """EMR_SETTEXTCOLOR, which the checker doesn't read."""
-    session.state.text_colour = read_colour(session.fields["colour"], session.state.palette)
+    session.state.text_reference = session.fields["colour"]
     session.keep()
 
 
 def background_colour(session: EmfSession) -> None:
     """EMR_SETBKCOLOR."""
-    session.state.background = read_colour(session.fields["colour"], session.state.palette)
-    session.keep_with_colour()
+    session.state.back_reference = session.fields["colour"]
+    session.state.background_use = session.keep_with_colour()
 
 
 def text_justification(session: EmfSession) -> None:
@@ -198,8 +196,8 @@ def _has_identity(session: EmfSession) -> bool:
 
 
 def comment(session: EmfSession) -> None:
-    """EMR_COMMENT: one that holds EMF+ ([MS-EMF] 2.3.3.2) is left out if the caller says so."""
-    if session.options.drop_emf_plus and session.data[_COMMENT_AT : _COMMENT_AT + len(_EMF_PLUS)] == _EMF_PLUS:
+    """EMR_COMMENT: one that holds EMF+ is left out if the caller says so."""
+    if session.options.drop_emf_plus and is_emf_plus(session.data):
         session.replace(Action.EMF_PLUS)
     else:
         session.keep()

@@ -6,14 +6,15 @@ from collections.abc import Callable, Sequence
 from functools import partial
 
 from .affine import Point
-from .dashes import Dash, dashes, gaps, line_of, pattern_of
+from .dashes import pattern_of, thin_lines
 from .emf_blocks import Lines, lines_record, origin_near
 from .emf_session import EmfSession
 from .fixed import ONE
-from .objects import NULL_PEN, colour_word
+from .objects import NULL_PEN
 from .output import Action
+from .palettes import colour_word
 from .pens import PenLook, PenShape, Way
-from .shapes import Figure
+from .shapes import Figure, fixed_bounds
 from .state import page_length
 from .stroke_shapes import aligned, stroke_contours
 from .text import OPAQUE, Colour
@@ -44,9 +45,15 @@ def draw(session: EmfSession, figures: Sequence[Figure], action: Action, fill: b
     if look is None or way is Way.AS_PLAYED or not shown:
         session.draw(figures, action)
         return
+    _check(session, shown)
     stroke = _polygons(session, shown, look) if way is Way.POLYGONS else _lines(session, shown, look)
     before, filled = _fill(session, shown, fill)
     session.replace(action, _block(session, shown[0].points[0], before, [*filled, stroke]))
+
+
+def _check(session: EmfSession, figures: Sequence[Figure]) -> None:
+    """Raises Fault OffPlane for figures off the plane before their strokes, which may be very many, are made."""
+    session.grid.check(fixed_bounds(point for figure in figures for point in figure.points))
 
 
 def _fill(session: EmfSession, figures: Sequence[Figure], fill: bytes | None) -> tuple[list[bytes], list[Drawn]]:
@@ -73,6 +80,7 @@ def stroke_path(session: EmfSession, figures: Sequence[Figure]) -> None:
     if look is None or way is Way.AS_PLAYED:
         session.draw([Figure(_line(figure), False) for figure in figures], Action.PATH)
         return
+    _check(session, figures)
     stroke = _polygons(session, figures, look) if way is Way.POLYGONS else _lines(session, figures, look)
     session.replace(Action.PATH, _block(session, figures[0].points[0], [], [stroke]))
 
@@ -118,7 +126,7 @@ def _polygons(session: EmfSession, figures: Sequence[Figure], look: PenLook) -> 
     contours = stroke_contours(figures, shape, session.budget)
 
     def drawn(origin: Point) -> list[bytes]:
-        lists = aligned(contours, lambda point: session.grid.units(point, origin), False)
+        lists = aligned(contours, lambda points: session.grid.placed(points, origin), False)
         polygons = lines_record(session.grid, Lines.CLOSED, lists, origin)
         return [*_brush(session, look.colour), *polygons] if polygons else []
 
@@ -140,9 +148,9 @@ def _lines(session: EmfSession, figures: Sequence[Figure], look: PenLook) -> Dra
     """Draws thin dashes as lines; gaps of an older pen have the background's colour in the OPAQUE mode."""
     state, budget = session.state, session.budget
     pattern = pattern_of(look, partial(page_length, state.device), ONE)
-    drawn_dashes = [dash for figure in figures for dash in dashes(figure, pattern, budget)]
+    drawn_dashes = thin_lines(figures, pattern, budget, True)
     is_opaque = look.is_older and state.background_mode == OPAQUE
-    drawn_gaps = [gap for figure in figures for gap in gaps(figure, pattern, budget)] if is_opaque else []
+    drawn_gaps = thin_lines(figures, pattern, budget, False) if is_opaque else []
 
     def drawn(origin: Point) -> list[bytes]:
         under = _thin_lines(session, drawn_gaps, state.background, origin)
@@ -155,9 +163,9 @@ def _lines(session: EmfSession, figures: Sequence[Figure], look: PenLook) -> Dra
     return drawn
 
 
-def _thin_lines(session: EmfSession, parts: Sequence[Dash], colour: Colour, origin: Point) -> list[bytes]:
+def _thin_lines(session: EmfSession, parts: Sequence[list[Point]], colour: Colour, origin: Point) -> list[bytes]:
     """A thin solid pen, selected, and lines; nothing if no line has a length."""
-    lines = lines_record(session.grid, Lines.OPEN, [line_of(part) for part in parts], origin) if parts else []
+    lines = lines_record(session.grid, Lines.OPEN, parts, origin) if parts else []
     if not lines:
         return []
     index = session.use_extra()

@@ -10,12 +10,13 @@ from .emf_blocks import Lines, lines_record, origin_near
 from .emf_session import EmfSession
 from .fixed import FRACTION_BITS
 from .faults import Fault, FaultName
-from .objects import NULL_BRUSH, NULL_PEN, colour_word
+from .objects import NULL_BRUSH, NULL_PEN
 from .output import Action
+from .palettes import colour_word
 from .records import Fields, numbers_at
-from .shapes import bounds
+from .shapes import bounds, fixed_bounds
 from .text import CLIPPED_BOX, DISTANCES_IN_PAIRS, OPAQUE_BOX, UPDATE_POSITION, Box, LaidText, TextRecord
-from .text_blocks import Fill, TextBlock, TextFills, ink, text_fills
+from .text_blocks import Fill, TextBlock, TextFills, text_fills
 
 # Options of EMR_SMALLTEXTOUT: it has no box; its characters have one byte each.
 _NO_BOX, _SMALL = 0x100, 0x200
@@ -86,7 +87,7 @@ def _replace_text(session: EmfSession, record: TextRecord) -> None:
     if session.texts is None:
         session.keep()
         return
-    check_text(state.doubts, state.align, state.background_mode, record.options)
+    check_text(state.doubts, state.align)
     laid = session.texts.lay_out(record, state.font, state.text_settings(), state.page_to_device())
     if session.open_path is not None:
         _add_to_path(session, laid)
@@ -101,8 +102,7 @@ def _add_to_path(session: EmfSession, laid: LaidText) -> None:
     path = session.open_path
     assert path is not None
     session.give_up_path()
-    contours = [contour for fill in ink(laid, session.state.text_colour) for contour in fill.contours]
-    for contour in contours:
+    for contour in (*laid.glyphs, *laid.lines):
         path.add(contour, True)
     path.is_joined = False
     session.replace_text(Action.PATH, [], None, laid.note)
@@ -145,7 +145,9 @@ def _fits(session: EmfSession, shared: TextBlock, text: TextFills) -> bool:
 
 def _is_near(session: EmfSession, points: Sequence[Point], origin: Point) -> bool:
     reach = (_SHARED_REACH << FRACTION_BITS) // session.grid.parts
-    return all(abs(place - (side << FRACTION_BITS)) <= reach for point in points for place, side in zip(point, origin))
+    left, top, right, bottom = fixed_bounds(points)
+    across, down = origin.x << FRACTION_BITS, origin.y << FRACTION_BITS
+    return max(across - left, right - across, down - top, bottom - down) <= reach
 
 
 def _polygons(session: EmfSession, fill: Fill, origin: Point) -> list[bytes]:

@@ -13,8 +13,8 @@ class FaultName(Enum):
     MissingFont = "MissingFont"
     """No folder has a font for a face. Name one that has it, or a family by --map or --instead."""
     MissingBold = "MissingBold"
-    """A face is bold, and its family has no bold font; strokes aren't made bolder. Name a folder with the bold one, or
-    a family that has one by --map.
+    """A face is bold, and neither its family nor one of equal widths has a bold font; strokes aren't made bolder. Name
+    a folder with the bold one, or a family that has one by --map.
     """
     MissingGlyph = "MissingGlyph"
     """A font has no glyph, or no outline, for a character. Name a family that has it by --fallback."""

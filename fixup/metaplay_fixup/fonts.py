@@ -28,7 +28,7 @@ class FontMetrics:
     """Metrics in font units, from [OpenType] head, OS/2 and post.
 
     `ascent` and `descent` are usWinAscent and usWinDescent. Of a line, `middle` is its height above the baseline,
-    `size` its thickness. The positions of post and OS/2 are taken for those of the middle.
+    `size` its thickness: `text_lines` says why the positions of post and OS/2 are those of the middle.
     """
 
     units_per_em: int

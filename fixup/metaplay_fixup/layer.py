@@ -2,13 +2,11 @@
 
 from __future__ import annotations
 
-
-from .affine import Contour, Point
+from .affine import Contour
 from .charsets import Characters, from_bytes, from_utf16
 from .choice import FontChooser
 from .face_metrics import metrics_of_face
 from .faults import Fault, FaultName
-from .fonts import FontMetrics
 from .glyphs import Glyph, check_scripts, glyphs_of
 from .layout import Laid, Line, band, glyph_contours, laid, moved_position
 from .metrics import direction_of, frame_of
@@ -28,7 +26,7 @@ from .text import (
     TextRecord,
     TextSettings,
 )
-
+from .text_lines import has_area, lines
 
 MOST_CHARACTERS = 1 << 20
 """A text has at most so many characters."""
@@ -63,10 +61,10 @@ class FontLayer:
         if settings.align & UPDATE_POSITION:
             position = moved_position(text, settings, record.reference, direction_of(font.escapement, page))
         contours = glyph_contours(text, self._shapes)
-        lines = _lines(text, font)
+        underlines = lines(text, font)
         background = _background(text, record, settings)
         note = self._note(characters, font, line.glyphs)
-        return LaidText(contours, lines, background, position, note)
+        return LaidText(contours, underlines, background, position, note)
 
     def _characters(self, record: TextRecord, font: LogicalFont) -> Characters:
         """The characters, without the zeros that some programs count with the string."""
@@ -113,30 +111,14 @@ def _draws_nothing(codes: tuple[int, ...], record: TextRecord, font: LogicalFont
     if not codes:
         return True
     moves = settings.align & UPDATE_POSITION
-    lines = font.underline or font.strike_out
+    has_lines = font.underline or font.strike_out
     cell = settings.background_mode == OPAQUE and not record.options & OPAQUE_BOX
-    return not (moves or lines or cell) and all(map(shows_nothing, codes))
+    return not (moves or has_lines or cell) and all(map(shows_nothing, codes))
 
 
 def _note(characters: Characters, font: LogicalFont) -> Note:
     """The note of a text that needs no font."""
     return Note(font.face, "", Choice.NONE, _string(characters.codes), code_page=characters.code_page)
-
-
-def _lines(text: Laid, font: LogicalFont) -> list[Contour]:
-    """Underline and strike-out."""
-    metrics: FontMetrics = text.line.metrics
-    bands: list[Contour] = []
-    if font.underline:
-        bands.append(_centred_band(text, metrics.underline_middle, metrics.underline_size))
-    if font.strike_out:
-        bands.append(_centred_band(text, metrics.strike_out_middle, metrics.strike_out_size))
-    return [contour for contour in bands if _has_area(contour)]
-
-
-def _centred_band(text: Laid, middle: int, size: int) -> Contour:
-    """The band of a line with this middle and thickness, in font units."""
-    return band(text, 2 * middle - size, 2 * middle + size)
 
 
 def _background(text: Laid, record: TextRecord, settings: TextSettings) -> Contour | None:
@@ -145,13 +127,7 @@ def _background(text: Laid, record: TextRecord, settings: TextSettings) -> Conto
     if settings.background_mode != OPAQUE or record.options & both == both:
         return None
     cell = band(text, -2 * text.line.metrics.descent, 2 * text.line.metrics.ascent)
-    return cell if _has_area(cell) else None
-
-
-def _has_area(contour: Contour) -> bool:
-    one, two, _, four = contour
-    across, down = Point(two.x - one.x, two.y - one.y), Point(four.x - one.x, four.y - one.y)
-    return across.x * down.y != across.y * down.x
+    return cell if has_area(cell) else None
 
 
 def _string(codes: tuple[int, ...]) -> str:

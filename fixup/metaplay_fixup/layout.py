@@ -20,9 +20,9 @@ MOST_POINTS = 1 << 20
 """A text has at most so many points, like any drawing."""
 _SYMBOL_SPACE = 0xF020
 _TOP = 0
-# The slant that FreeType and others make where a family has no italic: x moves by 0.2126 of y.
-_SLANT = 0x366A
-_SLANT_ONE = 1 << 16
+# Where a family has no italic, x moves by a quarter of y: wine's slant (dlls/win32u/freetype.c), which stands in for
+# that of Windows, as its own isn't published. A width that the font gives doesn't change it.
+_PARTS_OF_SLANT = 4
 _SHIFT = VECTOR_BITS - FRACTION_BITS
 _HALF = 1 << (_SHIFT - 1)
 
@@ -154,7 +154,8 @@ def _axes(line: Line, units_per_em: int, made_slant: bool) -> Axes:
     ratio = (line.metrics.units_per_em, units_per_em)
     x, y = line.frame.glyph_x, line.frame.glyph_y
     if made_slant:
-        y = Point(y.x + x.x * _SLANT // _SLANT_ONE, y.y + x.y * _SLANT // _SLANT_ONE)
+        slant = line.frame.slant
+        y = Point(y.x + slant.x // _PARTS_OF_SLANT, y.y + slant.y // _PARTS_OF_SLANT)
     if ratio[0] == ratio[1]:
         return Axes(x, y)
     return Axes(_times(x, ratio), _times(y, ratio))
@@ -171,7 +172,8 @@ def _rounded(vector: Point) -> Point:
 
 def _moved(contour: Contour, start: Point) -> Contour:
     x, y = start
-    return [Point(left + x, top + y) for left, top in contour]
+    new = tuple.__new__
+    return [new(Point, (left + x, top + y)) for left, top in contour]
 
 
 def _page_length(line: Line, settings: TextSettings) -> tuple[int, int]:

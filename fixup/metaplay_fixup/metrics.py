@@ -46,7 +46,8 @@ class Frame:
     """Vectors on the device, in units of 2^-60.
 
     `distance_along` and `distance_up` are those of a page unit along the line and up from it, `advance` and `rise`
-    those of a font unit, `glyph_x` and `glyph_y` those of a font unit of a glyph.
+    those of a font unit, `glyph_x` and `glyph_y` those of a font unit of a glyph. `slant` is a font unit of a glyph's
+    height, laid along the line.
     """
 
     distance_along: Point
@@ -55,6 +56,7 @@ class Frame:
     rise: Point
     glyph_x: Point
     glyph_y: Point
+    slant: Point
 
 
 def height_scale(font: LogicalFont, metrics: FontMetrics) -> Ratio:
@@ -118,6 +120,7 @@ def _compatible(font: LogicalFont, page: PageToDevice, height: Ratio, width: Rat
         rise=glyph_y,
         glyph_x=glyph_x,
         glyph_y=glyph_y,
+        slant=_scaled(Point(cosine, -sine), up),
     )
 
 
@@ -132,6 +135,7 @@ def _advanced(directions: tuple[Direction, Direction], page: PageToDevice, heigh
         rise=_on_device(line.up, page, height),
         glyph_x=_on_device(character.along, page, width),
         glyph_y=_on_device(character.up, page, height),
+        slant=_on_device(character.along, page, height),
     )
 
 

@@ -2,13 +2,12 @@
 
 from __future__ import annotations
 
-from collections.abc import Sequence
 from dataclasses import dataclass
 
-from .faults import Fault, FaultName
+from .palettes import NO_USE, STOCK_PALETTE, Palette, PaletteUse
 from .pens import PenLook
 from .records import Fields
-from .text import Colour, LogicalFont
+from .text import LogicalFont
 
 
 @dataclass(frozen=True, slots=True)
@@ -16,32 +15,28 @@ class Pen:
     """A pen.
 
     `width` is in page units, 0 for the thinnest line. `data` is the record that makes it, or None for a stock pen.
-    `look` is what it says of its strokes, if that matters.
+    `look` is what it says of its strokes, if that matters. `use` is the colour that its record took from a palette.
     """
 
     width: int
     is_null: bool
     data: bytes | None
     look: PenLook | None = None
+    use: PaletteUse = NO_USE
 
 
 @dataclass(frozen=True, slots=True)
 class Brush:
-    """A brush of any kind. Blocks draw with the one that is selected, so nothing of it needs to be known."""
+    """A brush of any kind.
 
+    Blocks draw with the one that is selected, so nothing of it needs to be known but the colours that its record took
+    from a palette.
+    """
 
-@dataclass(frozen=True, slots=True)
-class Palette:
-    """A palette's colours."""
-
-    colours: tuple[Colour, ...]
+    use: PaletteUse = NO_USE
 
 
 Object = Pen | Brush | Palette | LogicalFont
-
-NO_PALETTE = Palette(())
-WHITE: Colour = (255, 255, 255)
-BLACK: Colour = (0, 0, 0)
 
 FIRST_STOCK = 0x80000000
 NULL_BRUSH = FIRST_STOCK + 5
@@ -56,6 +51,7 @@ def _stock_font(height: int, weight: int, charset: int, face: str) -> LogicalFon
 
 SYSTEM_FONT = _stock_font(16, 700, _ANSI, "System")
 BLACK_PEN = Pen(0, False, None)
+WHITE_BRUSH = Brush()
 
 _STOCK_FONTS = {
     10: _stock_font(12, 400, _OEM, "Courier New"),
@@ -76,41 +72,8 @@ def stock_object(index: int) -> Object | None:
     if 0 <= place <= 5 or place == 18:
         return Brush()
     if place == 15:
-        return NO_PALETTE
+        return STOCK_PALETTE
     return _STOCK_FONTS.get(place)
-
-
-def read_colour(reference: int, palette: Palette) -> Colour:
-    """The colour of a COLORREF ([MS-WMF] 2.2.2.8), whose highest byte is its type.
-
-    Types 0 and 2 have red, green and blue; type 1 is an index into the palette. Raises Fault PaletteColour for other
-    types, and for an index that the palette doesn't have.
-    """
-    kind = reference >> 24
-    if kind in (0, 2):
-        return reference & 0xFF, reference >> 8 & 0xFF, reference >> 16 & 0xFF
-    index = reference & 0xFFFF
-    if kind != 1 or index >= len(palette.colours):
-        raise Fault(FaultName.PaletteColour, f"colour {reference:08X}")
-    return palette.colours[index]
-
-
-def colour_word(colour: Colour) -> int:
-    """The COLORREF of a colour, of type 0."""
-    red, green, blue = colour
-    return red | green << 8 | blue << 16
-
-
-def plays_as_written(reference: int) -> bool:
-    """Whether the checker takes a COLORREF as it is."""
-    return reference >> 24 in (0, 2)
-
-
-def read_palette(data: bytes, at: int, count: int) -> Palette:
-    """A palette of entries of four bytes from a place on ([MS-WMF] 2.2.1.3); entries that aren't there are left out."""
-    whole = min(count, max(0, len(data) - at) // 4)
-    entries: Sequence[bytes] = [data[at + 4 * place : at + 4 * place + 3] for place in range(whole)]
-    return Palette(tuple((red, green, blue) for red, green, blue in entries))
 
 
 def logical_font(fields: Fields, face: str) -> LogicalFont:

@@ -29,6 +29,7 @@ class Action(Enum):
     MAP_MODE = "map mode"
     EMF_PLUS = "EMF+"
     STROKE = "stroke"
+    DELETION = "deletion"
 
 
 @dataclass(frozen=True, slots=True)

@@ -88,6 +88,11 @@ class PenLook:
     is_older: bool
     entries: tuple[int, ...] = ()
 
+    @property
+    def is_geometric(self) -> bool:
+        """Whether the pen counts in page units as a LogPenEx may."""
+        return self.width > 0 and not self.is_older
+
     def is_dashed_at(self, is_wide: bool) -> bool:
         """Whether the pen is dashed, for one that is or isn't wider than a device pixel."""
         if self.style in (Style.SOLID, Style.INSIDE_FRAME) or (self.is_older and is_wide):

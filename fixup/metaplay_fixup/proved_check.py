@@ -5,9 +5,10 @@ from __future__ import annotations
 import os
 import subprocess
 import tempfile
+from collections.abc import Sequence
 
 from .command_line import Check
-from .statuses import Ending, Status, out_of_memory
+from .statuses import Ending, Status, out_of_memory, say
 
 _PREFIX = "metaplay: "
 
@@ -24,15 +25,28 @@ def check_result(program: str, file: int, check: Check) -> None:
         sides = [str(check.side.width), str(check.side.height)]
         words = [program, "prepare", "stdin", *sides, os.path.join(folder, "certificate"), "--profile", "print"]
         try:
-            ended = subprocess.run(
-                [*words, *allowed], stdin=file, stdout=subprocess.DEVNULL, stderr=subprocess.PIPE, check=False
-            )
+            status, line = _ended([*words, *allowed], file)
         except OSError as error:
             raise Ending(Status.FAILED, "cannot run metaplay") from error
-    if ended.returncode == Status.REJECTED:
-        line = ended.stderr.decode("utf-8", "replace").strip().removeprefix(_PREFIX)
+    if status == Status.REJECTED:
         raise Ending(Status.REJECTED, f"{line} of the result")
-    if ended.returncode == Status.OUT_OF_MEMORY:
+    if status == Status.OUT_OF_MEMORY:
         raise out_of_memory()
-    if ended.returncode != Status.DONE:
-        raise Ending(Status.FAILED, "cannot run metaplay")
+    if status != Status.DONE:
+        raise Ending(Status.FAILED, f"cannot run metaplay ({line})" if line else "cannot run metaplay")
+
+
+def _ended(words: Sequence[str], file: int) -> tuple[int, str]:
+    """The status of a program, and its last line on standard error. Lines before that go on to standard error.
+
+    In a clone, the program may be proved and built first, which takes long and says so.
+    """
+    last = ""
+    out = subprocess.DEVNULL
+    with subprocess.Popen(words, stdin=file, stdout=out, stderr=subprocess.PIPE, text=True, errors="replace") as run:
+        assert run.stderr is not None
+        for line in run.stderr:
+            if last:
+                say(last)
+            last = line.strip().removeprefix(_PREFIX)
+    return run.returncode, last

@@ -16,6 +16,9 @@ from .affine import Point
 from .faults import Fault, FaultName
 
 
+_HEAD_NUMBERS = 2
+
+
 class Layout(Enum):
     """The head of a record: of WMF or of EMF."""
 
@@ -27,9 +30,10 @@ class Layout(Enum):
         """The bytes of a head."""
         return 8 if self is Layout.EMF else 6
 
-    def head(self, number: int, size: int) -> bytes:
-        """The head of a record of so many bytes in all."""
-        return struct.pack("<II", number, size) if self is Layout.EMF else struct.pack("<IH", size // 2, number)
+    @property
+    def head_codes(self) -> str:
+        """The two numbers of a head, as letters of the module `struct`."""
+        return "II" if self is Layout.EMF else "IH"
 
     def number(self, data: bytes) -> int:
         """The type or function of a record that has a whole head."""
@@ -68,37 +72,38 @@ class Fields:
 
 @dataclass(frozen=True, slots=True)
 class Kind:
-    """A kind of record: its number and name in the standard, its fixed fields, and what points follow them."""
+    """A kind of record: its number and name in the standard, its fixed fields, and what points follow them.
+
+    `fixed` is the head with the fields, whose places are counted with the two numbers of the head. `end` is where the
+    fields end, in bytes from the record's start.
+    """
 
     layout: Layout
     number: int
     name: str
     places: Mapping[str, int]
     fixed: struct.Struct
+    end: int
     points_in: PointsIn
     point_code: str
-
-    @property
-    def end(self) -> int:
-        """Where the fixed fields end, in bytes from the record's start."""
-        return self.layout.head_size + self.fixed.size
 
     def read(self, data: bytes) -> Fields:
         """The fixed fields of a record. Raises Fault BadParams if they aren't all there."""
         if len(data) < self.end:
             raise Fault(FaultName.BadParams, "fields are missing")
-        return Fields(self.places, self.fixed.unpack_from(data, self.layout.head_size))
+        return Fields(self.places, self.fixed.unpack_from(data))
 
     def write(self, *numbers: int, rest: bytes = b"") -> bytes:
         """A record of the numbers of all fixed fields and the bytes after them.
 
         Raises Fault OffPlane if a number doesn't fit its field.
         """
+        size = self.end + len(rest)
+        head = (self.number, size) if self.layout is Layout.EMF else (size // 2, self.number)
         try:
-            body = self.fixed.pack(*numbers)
+            return self.fixed.pack(*head, *numbers) + rest
         except struct.error as error:
             raise Fault(FaultName.OffPlane, f"{self.name}: {error}") from error
-        return self.layout.head(self.number, self.end + len(rest)) + body + rest
 
     def changed(self, data: bytes, **numbers: int) -> bytes:
         """The record with other numbers in some of its fixed fields. Raises Fault as `read` and `write` do."""
@@ -173,6 +178,6 @@ def _kind(layout: Layout, words: list[str]) -> Kind:
     listed = [field for field in fields if field[0] in ("points", "lists")]
     plain = [field for field in fields if field not in listed]
     points_in = PointsIn(listed[0][0]) if listed else PointsIn.NONE
-    places = {name: place for place, (name, _) in enumerate(plain)}
-    fixed = struct.Struct("<" + "".join(code for _, code in plain))
-    return Kind(layout, number, words[1], places, fixed, points_in, listed[0][1] if listed else "")
+    places = {name: place for place, (name, _) in enumerate(plain, _HEAD_NUMBERS)}
+    fixed = struct.Struct("<" + layout.head_codes + "".join(code for _, code in plain))
+    return Kind(layout, number, words[1], places, fixed, fixed.size, points_in, listed[0][1] if listed else "")

@@ -7,6 +7,7 @@ import json
 from collections.abc import Iterable, Iterator, Sequence
 
 from .convert import Converted
+from .emf_plus import has_emf_plus
 from .fonts import Font
 from .output import Replacement
 from .text import Choice, Note
@@ -30,6 +31,7 @@ def report_lines(source: str, original: bytes, converted: Converted, fonts: Sequ
     yield _line(
         {
             "converted": hashlib.sha256(converted.data).hexdigest(),
+            "emf_plus": has_emf_plus(converted.data),
             "file": name,
             "fonts": [entry for font in fonts for entry in _of_font(font, notes)],
             "original": hashlib.sha256(original).hexdigest(),

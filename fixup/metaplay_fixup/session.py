@@ -3,14 +3,15 @@
 from __future__ import annotations
 
 from abc import ABC, abstractmethod
-from collections.abc import Sequence
+from collections.abc import Callable, Sequence
+from contextlib import suppress
 
 from .bitmaps import read_dib, read_picture
 from .budgets import Budget
 from .faults import Fault, FaultName
-from .objects import colour_word, plays_as_written, read_colour
 from .options import Options
 from .output import Action, Entry, Output, Source
+from .palettes import PaletteUse, colour_use, colour_word, plays_as_written, read_colour
 from .pictures import Picture
 from .reader import Metafile
 from .records import Fields, Kind, Table
@@ -75,17 +76,25 @@ class Session(ABC):
         self.output.report(self.number, self.kind_at_hand.name, action, box, note)
         return self.output.add(self.number, Source.REPLACED, records)
 
-    def keep_with_colour(self) -> None:
+    def keep_with_colour(self) -> PaletteUse:
         """Keeps a record with a colour, or replaces a colour of the palette by its red, green and blue.
 
-        Raises Fault PaletteColour as `read_colour` does.
+        Gives what was taken from the palette. Raises Fault PaletteColour as `read_colour` does.
         """
         reference = self.fields["colour"]
+        use = colour_use(reference, self.state.palette)
         if plays_as_written(reference):
             self.keep()
-            return
-        colour = colour_word(read_colour(reference, self.state.palette))
-        self.replace(Action.COLOUR, [self.kind_at_hand.changed(self.data, colour=colour)])
+        else:
+            colour = colour_word(read_colour(reference, self.state.palette))
+            self.replace(Action.COLOUR, [self.kind_at_hand.changed(self.data, colour=colour)])
+        return use
+
+    def keep_palette_change(self, change: Callable[[Fields], None]) -> None:
+        """Keeps a record that changes a palette. One that is cut changes nothing, and the player doesn't read it."""
+        with suppress(Fault):
+            change(self.fields)
+        self.keep()
 
     def picture(self, header: bytes, bits: bytes, usage: int) -> Picture:
         """A bitmap as 24 bits. Raises Fault as `read_picture` does, and TooLong if the file's have too many pixels."""

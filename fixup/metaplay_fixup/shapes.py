@@ -3,7 +3,8 @@
 from __future__ import annotations
 
 from collections.abc import Iterable, Sequence
-from typing import NamedTuple
+from itertools import islice
+from typing import NamedTuple, TypeVar
 
 from .affine import Point
 from .faults import Fault, FaultName
@@ -20,14 +21,24 @@ class Figure(NamedTuple):
     is_closed: bool
 
 
-def without_repeats(points: Sequence[Point], is_closed: bool) -> list[Point]:
+Pair = TypeVar("Pair", bound=tuple[int, int])
+
+
+def without_repeats(points: Sequence[Pair], is_closed: bool) -> list[Pair]:
     """The points without those that equal the one before; of a closed list also without a last one that equals the
     first.
     """
-    kept = [point for place, point in enumerate(points) if place == 0 or point != points[place - 1]]
+    kept = [*points[:1], *(point for before, point in zip(points, points[1:]) if point != before)]
     while is_closed and len(kept) > 1 and kept[-1] == kept[0]:
         kept.pop()
     return kept
+
+
+def parted(points: Iterable[Pair], lists: Iterable[Sequence[Point]], is_closed: bool) -> list[list[Pair]]:
+    """The points of all lists after a change, as lists again, without repeats, and without lists of fewer than two."""
+    rest = iter(points)
+    parts = (without_repeats(list(islice(rest, len(part))), is_closed) for part in lists)
+    return [part for part in parts if len(part) > 1]
 
 
 def check_count(lists: Iterable[Sequence[Point]]) -> None:
@@ -38,15 +49,13 @@ def check_count(lists: Iterable[Sequence[Point]]) -> None:
 
 def bounds(points: Iterable[Point]) -> Box:
     """The least box of whole device units around points in fixed units, of which there is at least one."""
-    corners = list(points)
-    across, down = [point.x for point in corners], [point.y for point in corners]
-    return Box(floor_units(min(across)), floor_units(min(down)), ceiling_units(max(across)), ceiling_units(max(down)))
+    left, top, right, bottom = fixed_bounds(points)
+    return Box(floor_units(left), floor_units(top), ceiling_units(right), ceiling_units(bottom))
 
 
 def fixed_bounds(points: Iterable[Point]) -> Box:
     """The least box around points, in the same units. There is at least one point."""
-    corners = list(points)
-    across, down = [point.x for point in corners], [point.y for point in corners]
+    across, down = zip(*points)
     return Box(min(across), min(down), max(across), max(down))
 
 

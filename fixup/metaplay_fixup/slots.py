@@ -42,11 +42,13 @@ class Slots:
         """The object of an index, or None if there is none, or none of interest."""
         return self._objects.get(index)
 
-    def delete(self, index: int) -> None:
-        """Frees an index, if it has an object."""
-        if index in self._objects:
+    def delete(self, index: int) -> bool:
+        """Frees an index, if it has an object, and says whether it had one."""
+        is_used = index in self._objects
+        if is_used:
             del self._objects[index]
             heappush(self._freed, index)
+        return is_used
 
     def lowest_free(self, count: int) -> list[int]:
         """The indexes that the next objects would get. Raises Fault TableFull if the checker allows fewer."""

@@ -10,7 +10,8 @@ from .clips import NO_CLIP, Clip
 from .doubts import Doubts
 from .faults import Fault, FaultName
 from .fixed import ONE
-from .objects import BLACK, BLACK_PEN, NO_PALETTE, SYSTEM_FONT, WHITE, Palette, Pen
+from .objects import BLACK_PEN, SYSTEM_FONT, WHITE_BRUSH, Brush, Pen
+from .palettes import NO_USE, STOCK_PALETTE, Palette, PaletteUse, read_colour
 from .pens import DEFAULT_MITER_LIMIT
 from .singles import Ratio
 from .text import OPAQUE, Colour, LogicalFont, PageToDevice, TextSettings
@@ -22,6 +23,7 @@ TEXT_MODE, ISOTROPIC, ANISOTROPIC = 1, 7, 8
 MOST_SAVED = 256
 
 _ORIGIN, _UNITS = Point(0, 0), Point(1, 1)
+_BLACK, _WHITE = 0, 0xFFFFFF
 
 
 @dataclass(frozen=True, slots=True)
@@ -54,11 +56,13 @@ class PageMap:
 
 @dataclass(slots=True)
 class State:
-    """A state. All values are immutable, so a saved state is a copy of the references.
+    """A state. All values but palettes are immutable, so a saved state is a copy of the references.
 
-    `output_position` is the position that the converted file's player has, or None if it isn't known. `clip` is what
-    was clipped since the clip was removed last, and `meta_clip` stays when it is removed. Three are of WMF: what its
-    records scale the viewport by that they haven't set, the window that they set, and whether they set a viewport.
+    `text_reference` and `back_reference` are colours as their records have them; `background_use` is what the player's
+    background took from a palette. `output_position` is the position that the converted file's player has, or None if
+    it isn't known. `clip` is what was clipped since the clip was removed last; `meta_clip` stays when it is removed.
+    Three are of WMF: what its records scale the viewport by that they haven't set, the window that they set, and
+    whether they set a viewport.
     """
 
     page: PageMap = field(default_factory=PageMap)
@@ -67,9 +71,11 @@ class State:
     output_position: Point | None = _ORIGIN
     pen: Pen = BLACK_PEN
     font: LogicalFont = SYSTEM_FONT
-    palette: Palette = NO_PALETTE
-    text_colour: Colour = BLACK
-    background: Colour = WHITE
+    brush: Brush = WHITE_BRUSH
+    palette: Palette = STOCK_PALETTE
+    text_reference: int = _BLACK
+    back_reference: int = _WHITE
+    background_use: PaletteUse = NO_USE
     background_mode: int = OPAQUE
     align: int = 0
     character_extra: int = 0
@@ -111,11 +117,25 @@ class State:
         """A state with the same values."""
         return replace(self)
 
+    @property
+    def text_colour(self) -> Colour:
+        """The colour of text. Raises Fault PaletteColour if the selected palette doesn't have it."""
+        return read_colour(self.text_reference, self.palette)
+
+    @property
+    def background(self) -> Colour:
+        """The colour behind text, and in the gaps of dashes. Raises Fault as `text_colour` does."""
+        return read_colour(self.back_reference, self.palette)
+
+    def check_palette(self) -> None:
+        """Raises Fault PaletteColour if pen, brush or background took a colour that the palette hasn't there now."""
+        for use in (self.pen.use, self.brush.use, self.background_use):
+            if not use.holds(self.palette):
+                raise Fault(FaultName.PaletteColour, "the palette has changed since a colour was taken from it")
+
     def text_settings(self) -> TextSettings:
         """The settings of text, for a layout."""
         return TextSettings(
-            self.text_colour,
-            self.background,
             self.background_mode,
             self.align,
             self.character_extra,

@@ -24,7 +24,8 @@ class Steps(Generic[SessionType]):
 
     Kinds in `unsupported` are neither played by the checker nor replaced. Kinds in `texts` are text. Kinds in
     `drawings` change no state. `moves` are the handlers of those that only move the position, as far as the state
-    goes. `parts` says which part of the state a kind sets. All others are kept.
+    goes. `parts` says which part of the state a kind sets. Kinds in `painted` use colours that earlier records may have
+    taken from a palette. All others are kept.
     """
 
     handlers: Mapping[int, Handler[SessionType]]
@@ -33,6 +34,7 @@ class Steps(Generic[SessionType]):
     drawings: frozenset[int]
     moves: Mapping[int, Handler[SessionType]]
     parts: Mapping[int, Part]
+    painted: frozenset[int]
 
     def run(self, session: SessionType) -> None:
         """Takes all records of the session's file over, or replaces them. Raises Fault with the record's number."""
@@ -49,12 +51,12 @@ class Steps(Generic[SessionType]):
         number = session.table.layout.number(session.data)
         if session.is_at_header:
             session.keep()
-        elif number in self.handlers:
-            self.handlers[number](session)
         elif number in self.unsupported:
             raise Fault(FaultName.Unsupported, session.kind_at_hand.name)
         else:
-            session.keep()
+            if number in self.painted and not session.options.text_only:
+                session.state.check_palette()
+            self.handlers.get(number, type(session).keep)(session)
 
     def _step_of_text(self, session: SessionType) -> None:
         """The same where only text is replaced: other records only change the state, whatever faults they have."""

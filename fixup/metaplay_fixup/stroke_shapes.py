@@ -8,7 +8,7 @@ from .affine import Contour, Point
 from .budgets import Budget
 from .caps import cap, circle, dot, left_of, right_of
 from .curves import Direction, direction_of
-from .dashes import Dash, dashes, line_of, whole
+from .dashes import Dash, along_line, dashes, line_of, whole
 from .faults import Fault, FaultName
 from .joins import join
 from .pens import PenShape
@@ -17,6 +17,9 @@ from .shapes import MOST_POINTS, Figure
 # The player's widest nib, in pixels, and how many times the tolerance goes into a pixel at the bound.
 _WIDEST_NIB = 4096
 _TOLERANCES_OF_PIXEL = 8
+
+Place = Callable[[Sequence[Point]], Sequence[tuple[int, int]]]
+"""Gives where the player has the points of a list, in its own units."""
 
 
 def stroke_contours(figures: Iterable[Figure], pen: PenShape, budget: Budget) -> list[Contour]:
@@ -36,24 +39,24 @@ def stroke_contours(figures: Iterable[Figure], pen: PenShape, budget: Budget) ->
     return [contour for contour in contours if twice_area(contour) > 0]
 
 
-def twice_area(contour: Sequence[Point]) -> int:
+def twice_area(contour: Sequence[tuple[int, int]]) -> int:
     """Twice a contour's area, which is negative if the contour goes against the direction from x to y."""
     following = [*contour[1:], *contour[:1]]
-    return sum(one.x * two.y - one.y * two.x for one, two in zip(contour, following))
+    return sum(x * below - y * right for (x, y), (right, below) in zip(contour, following))
 
 
-def aligned(contours: Iterable[Contour], place: Callable[[Point], Point], is_mirrored: bool) -> list[Contour]:
+def aligned(contours: Iterable[Contour], place: Place, is_mirrored: bool) -> list[Contour]:
     """The contours that have an area after `place` has rounded their points, all of one direction.
 
     Rounding may turn a narrow contour over, and then it would cut a hole. `is_mirrored` says that `place` turns all of
     them over.
     """
-    areas = [(contour, twice_area([place(point) for point in contour])) for contour in contours]
+    areas = [(contour, twice_area(place(contour))) for contour in contours]
     return [contour if (area > 0) != is_mirrored else contour[::-1] for contour, area in areas if area]
 
 
 def _parts(figure: Figure, pen: PenShape, budget: Budget) -> list[Dash]:
-    return dashes(figure, pen.pattern, budget) if pen.pattern else whole(figure)
+    return dashes(figure, pen.pattern, budget, along_line) if pen.pattern else whole(figure)
 
 
 def _dash_contours(dash: Dash, pen: PenShape, budget: Budget) -> list[Contour]:

@@ -75,8 +75,6 @@ class TextSettings:
     The extras count page units: one is for each character, one is shared by `break_count` spaces.
     """
 
-    colour: Colour = (0, 0, 0)
-    background_colour: Colour = (255, 255, 255)
     background_mode: int = OPAQUE
     align: int = 0
     character_extra: int = 0

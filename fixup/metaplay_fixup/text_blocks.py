@@ -67,11 +67,13 @@ def text_fills(laid: LaidText, record: TextRecord, state: State) -> TextFills:
     """What a text draws: the record's opaque box, the text's background, and the text.
 
     There is nothing of it if a box without an area clips it. Raises Fault ClipShape if the text must be clipped by a
-    turned box.
+    turned box, and PaletteColour if a colour that it needs isn't known.
     """
     page = state.page_to_device()
     if clips_all(record, page):
         return TextFills([], None)
     boxes = [box for box in (opaque_box(record, page), laid.background) if box is not None]
-    fills = [*(Fill(state.background, [box]) for box in boxes), *ink(laid, state.text_colour)]
+    fills = [Fill(state.background, [box]) for box in boxes]
+    if laid.glyphs or laid.lines:
+        fills += ink(laid, state.text_colour)
     return TextFills(fills, clip_box(record, laid, page))

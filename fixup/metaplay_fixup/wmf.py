@@ -4,7 +4,7 @@ from __future__ import annotations
 
 from collections.abc import Callable
 
-from . import wmf_blits, wmf_drawings, wmf_state, wmf_text
+from . import wmf_blits, wmf_drawings, wmf_objects, wmf_state, wmf_text
 from .doubts import Part
 from .steps import Steps
 from .wmf_session import WmfSession
@@ -13,16 +13,18 @@ Handler = Callable[[WmfSession], None]
 
 HANDLERS: dict[int, Handler] = {
     0x001E: WmfSession.save,
-    0x00F7: wmf_state.create_palette,
+    0x0037: wmf_objects.set_palette_entries,
+    0x00F7: wmf_objects.create_palette,
     0x0102: wmf_state.background_mode,
     0x0103: wmf_state.map_mode,
     0x0108: wmf_state.character_extra,
     0x0127: WmfSession.restore,
     0x012C: wmf_state.select_region,
-    0x012D: wmf_state.select,
+    0x012D: wmf_objects.select,
     0x012E: wmf_state.text_align,
-    0x0142: wmf_state.create_bitmap_brush,
-    0x01F0: wmf_state.delete,
+    0x0139: wmf_objects.resize_palette,
+    0x0142: wmf_objects.create_bitmap_brush,
+    0x01F0: wmf_objects.delete,
     0x0201: wmf_state.background_colour,
     0x0209: wmf_state.text_colour,
     0x020A: wmf_state.text_justification,
@@ -34,10 +36,10 @@ HANDLERS: dict[int, Handler] = {
     0x0211: wmf_state.offset_viewport,
     0x0213: wmf_drawings.line_to,
     0x0214: wmf_state.move,
-    0x0234: wmf_state.select_palette,
-    0x02FA: wmf_state.create_pen,
-    0x02FB: wmf_state.create_font,
-    0x02FC: wmf_state.create_brush,
+    0x0234: wmf_objects.select_palette,
+    0x02FA: wmf_objects.create_pen,
+    0x02FB: wmf_objects.create_font,
+    0x02FC: wmf_objects.create_brush,
     0x0324: wmf_drawings.polygons,
     0x0325: wmf_drawings.polyline,
     0x0410: wmf_state.scale_window,
@@ -46,7 +48,8 @@ HANDLERS: dict[int, Handler] = {
     0x0416: wmf_state.clip,
     0x0418: wmf_drawings.ellipse,
     0x041B: wmf_drawings.rectangle,
-    0x041F: WmfSession.keep_with_colour,
+    0x041F: wmf_drawings.pixel,
+    0x0436: wmf_objects.animate_palette,
     0x0521: wmf_text.text,
     0x0538: wmf_drawings.polygons,
     0x061C: wmf_drawings.round_rectangle,
@@ -66,12 +69,13 @@ _TEXTS = {0x0521, 0x0A32}
 _DRAWINGS = {0x0324, 0x0325, 0x0418, 0x041B, 0x041F, 0x0538, 0x061C, 0x0817, 0x081A, 0x0830, 0x0940, 0x0B41, 0x0F43}
 _PARTS = {
     0x0103: Part.MAP,
-    0x0201: Part.BACKGROUND,
-    0x0209: Part.TEXT_COLOUR,
     0x0213: Part.POSITION,
     0x0214: Part.POSITION,
     0x0410: Part.MAP,
     0x0412: Part.MAP,
 }
 
-WMF_STEPS = Steps(HANDLERS, frozenset(_UNSUPPORTED), frozenset(_TEXTS), frozenset(_DRAWINGS), {}, _PARTS)
+# Records that draw with the pen, the brush or the background, whose colours the output has as they were taken.
+_PAINTED = frozenset((*_DRAWINGS - {0x041F}, 0x0213, 0x061D))
+
+WMF_STEPS = Steps(HANDLERS, frozenset(_UNSUPPORTED), frozenset(_TEXTS), frozenset(_DRAWINGS), {}, _PARTS, _PAINTED)

@@ -9,11 +9,13 @@ from __future__ import annotations
 import struct
 from collections.abc import Sequence
 from dataclasses import dataclass
+from itertools import chain
+from typing import NamedTuple
 
 from .affine import Point
 from .faults import Fault, FaultName
-from .fixed import FRACTION_BITS, ONE, rounded_quotient
-from .shapes import check_count, without_repeats
+from .fixed import FRACTION_BITS, ONE
+from .shapes import check_count, parted
 from .state import ANISOTROPIC, PageMap
 from .wmf_kinds import WMF
 
@@ -66,18 +68,42 @@ class FineWindow:
 
     def units(self, point: Point) -> Point:
         """A fixed device point in the block's units. Raises Fault OffPlane if it doesn't fit 16 bits."""
-        x, y = (_page_parts(self.page, axis, point[axis], self.base[axis], self.factors[axis]) for axis in (0, 1))
-        if max(abs(x), abs(y)) > _LARGEST:
-            raise Fault(FaultName.OffPlane, "a point has more than 16 bits")
+        ((x, y),) = self.placed([point])
         return Point(x, y)
+
+    def placed(self, points: Sequence[Point]) -> list[tuple[int, int]]:
+        """The same for a list of points."""
+        across, down = (_parts(self.page, axis, self.base[axis], self.factors[axis]) for axis in (0, 1))
+        xs = [(place * across.factor + across.move) // across.divisor for place, _ in points]
+        ys = [(place * down.factor + down.move) // down.divisor for _, place in points]
+        if points and max(max(xs), -min(xs), max(ys), -min(ys)) > _LARGEST:
+            raise Fault(FaultName.OffPlane, "a point has more than 16 bits")
+        return list(zip(xs, ys))
+
+
+class _Parts(NamedTuple):
+    """What makes parts of a page unit of a fixed device coordinate: (coordinate * factor + move) / divisor, rounded
+    down. The divisor is above 0.
+    """
+
+    factor: int
+    move: int
+    divisor: int
+
+
+def _parts(page: PageMap, axis: int, base: int, factor: int) -> _Parts:
+    """The parts are counted from a page coordinate, and rounded to the nearest: half of the divisor is added."""
+    viewport, window = page.viewport_extent[axis], page.window_extent[axis]
+    divisor = viewport * ONE
+    move = (page.window_origin[axis] - base) * divisor - (page.viewport_origin[axis] << FRACTION_BITS) * window
+    sign = 1 if divisor > 0 else -1
+    return _Parts(2 * window * factor * sign, 2 * move * factor * sign + abs(divisor), 2 * abs(divisor))
 
 
 def _page_parts(page: PageMap, axis: int, place: int, base: int, factor: int) -> int:
     """A fixed device coordinate in parts of a page unit, counted from a page coordinate, rounded to the nearest."""
-    viewport = page.viewport_extent[axis]
-    moved = (place - (page.viewport_origin[axis] << FRACTION_BITS)) * page.window_extent[axis]
-    from_base = (page.window_origin[axis] - base) * viewport * ONE
-    return rounded_quotient((moved + from_base) * factor, viewport * ONE)
+    parts = _parts(page, axis, base, factor)
+    return (place * parts.factor + parts.move) // parts.divisor
 
 
 def _factor(page: PageMap, axis: int, places: Sequence[int]) -> tuple[int, int]:
@@ -89,22 +115,21 @@ def _factor(page: PageMap, axis: int, places: Sequence[int]) -> tuple[int, int]:
     return base, max(1, min(_FINEST, _LARGEST // (reach + 1)))
 
 
-def _list(window: FineWindow, points: Sequence[Point], is_closed: bool) -> list[Point]:
-    placed = without_repeats([window.units(point) for point in points], is_closed)
-    if len(placed) > _LARGEST:
+def _lists(window: FineWindow, lists: Sequence[Sequence[Point]], is_closed: bool) -> list[list[tuple[int, int]]]:
+    placed = parted(window.placed(list(chain.from_iterable(lists))), lists, is_closed)
+    if max(map(len, placed), default=0) > _LARGEST:
         raise Fault(FaultName.TooManyEdges, "a list has more than 32,767 points")
     return placed
 
 
-def _packed(points: Sequence[Point]) -> bytes:
-    return struct.pack(f"<{2 * len(points)}h", *(number for point in points for number in point))
+def _packed(points: Sequence[tuple[int, int]]) -> bytes:
+    return struct.pack(f"<{2 * len(points)}h", *chain.from_iterable(points))
 
 
 def polygons(window: FineWindow, contours: Sequence[Sequence[Point]]) -> list[bytes]:
     """The record that fills contours together, or none if no contour has two points that differ."""
     check_count(contours)
-    lists = [_list(window, contour, True) for contour in contours]
-    lists = [points for points in lists if len(points) > 1]
+    lists = _lists(window, contours, True)
     if not lists:
         return []
     if len(lists) == 1:
@@ -112,11 +137,11 @@ def polygons(window: FineWindow, contours: Sequence[Sequence[Point]]) -> list[by
     if len(lists) > 0xFFFF:
         raise Fault(FaultName.TooManyEdges, "more than 65,535 polygons")
     counts = struct.pack(f"<{len(lists)}H", *map(len, lists))
-    rest = counts + b"".join(map(_packed, lists))
+    rest = counts + _packed(list(chain.from_iterable(lists)))
     return [WMF.named("META_POLYPOLYGON").write(len(lists), rest=rest)]
 
 
 def lines(window: FineWindow, points: Sequence[Point]) -> list[bytes]:
     """The record that draws a line through points, or none if it has no two points that differ."""
-    placed = _list(window, points, False)
-    return [WMF.named("META_POLYLINE").write(len(placed), rest=_packed(placed))] if len(placed) > 1 else []
+    placed = _lists(window, [points], False)
+    return [WMF.named("META_POLYLINE").write(len(part), rest=_packed(part)) for part in placed]

@@ -8,7 +8,7 @@ from functools import partial
 from . import wmf_state, wmf_strokes
 from .affine import Point
 from .rounds import PageBox
-from .shapes import Figure, corners_of
+from .shapes import Figure, corners_of, fixed_bounds
 from .wmf_session import WmfSession
 from .text import Box
 
@@ -22,33 +22,39 @@ def _page_box(session: WmfSession) -> PageBox:
     return PageBox.ordered(_box(session), session.state.device)
 
 
-def _keep_or_stroke(session: WmfSession, lists: Callable[[], list[list[Point]]], is_closed: bool) -> None:
-    """Keeps a record of lines, unless its pen's strokes are replaced. `lists` gives its points, in page units."""
-    if not wmf_strokes.replaces_strokes(session):
+def _keep_or_stroke(session: WmfSession, figures: Callable[[WmfSession], list[Figure]]) -> None:
+    """Keeps a record of lines, unless its pen's strokes are replaced. `figures` reads it."""
+    if wmf_strokes.replaces_strokes(session):
+        wmf_strokes.draw(session, figures(session))
+    else:
         session.keep()
-        return
-    device = session.state.device
-    figures = [Figure([device.apply(point) for point in points], is_closed) for points in lists()]
-    wmf_strokes.draw(session, figures)
 
 
-def _lists(session: WmfSession) -> list[list[Point]]:
-    return session.kind_at_hand.point_lists(session.data)
+def _figures(is_closed: bool, session: WmfSession) -> list[Figure]:
+    """The lists of points of the record at hand."""
+    lists, device = session.kind_at_hand.point_lists(session.data), session.state.device
+    return [Figure([device.apply(point) for point in points], is_closed) for points in lists]
+
+
+def _outline(session: WmfSession) -> list[Figure]:
+    """The outline of a box, as GDI draws it for a WMF: from the upper right corner on the device, against the clock."""
+    left, top, right, bottom = fixed_bounds(map(session.state.device.apply, corners_of(_box(session))))
+    return [Figure([Point(right, top), Point(left, top), Point(left, bottom), Point(right, bottom)], True)]
 
 
 def polygons(session: WmfSession) -> None:
     """META_POLYGON and META_POLYPOLYGON."""
-    _keep_or_stroke(session, partial(_lists, session), True)
+    _keep_or_stroke(session, partial(_figures, True))
 
 
 def polyline(session: WmfSession) -> None:
     """META_POLYLINE."""
-    _keep_or_stroke(session, partial(_lists, session), False)
+    _keep_or_stroke(session, partial(_figures, False))
 
 
 def rectangle(session: WmfSession) -> None:
     """META_RECTANGLE."""
-    _keep_or_stroke(session, lambda: [corners_of(_box(session))], True)
+    _keep_or_stroke(session, _outline)
 
 
 def line_to(session: WmfSession) -> None:
@@ -59,6 +65,11 @@ def line_to(session: WmfSession) -> None:
     state, end = session.state, session.fields.point()
     wmf_strokes.draw(session, [Figure([state.device.apply(state.position), state.device.apply(end)], False)])
     state.position = end
+
+
+def pixel(session: WmfSession) -> None:
+    """META_SETPIXEL."""
+    session.keep_with_colour()
 
 
 def ellipse(session: WmfSession) -> None:

@@ -1,32 +1,19 @@
-"""Records of WMF that set the state ([MS-WMF] 2.3.5) and handle objects ([MS-WMF] 2.3.4)."""
+"""Records of WMF that set the state ([MS-WMF] 2.3.5)."""
 
 from __future__ import annotations
 
 from dataclasses import replace
 
 from .affine import Point
-from .bitmaps import plays_as_stored
 from .clips import Clip
 from .doubts import Part, settled
 from .extents import scaled_extent
 from .faults import Fault, FaultName
-from .objects import NO_PALETTE, Brush, Palette, Pen, logical_font, read_colour, read_palette
 from .output import Action
-from .pens import PenLook, older_pen
 from .state import ANISOTROPIC, ISOTROPIC, TEXT_MODE
-from .text import Box, LogicalFont
+from .text import Box
 from .viewports import UNSCALED, ViewportScale
-from .wmf_pictures import read_packed, stored_packed
 from .wmf_session import WmfSession
-
-_NULL_PEN, _NULL_BRUSH = 5, 1
-_PALETTE_AT, _FACE_AT, _FACE_LENGTH = 10, 24, 32
-_BITMAP_AT = 10
-# Brush styles of META_DIBCREATEPATTERNBRUSH ([MS-WMF] 2.1.1.4): the usage of the first isn't read.
-_PATTERN, _DIB_PATTERN = 3, 5
-
-# Code pages of face names by charset ([MS-WMF] 2.1.1.5).
-_FACE_PAGES = {128: "cp932", 129: "cp949", 134: "gbk", 136: "big5"}
 
 # What a clip of a WMF is doesn't matter here, only whether there is one.
 _CLIPPED = Clip(Box(0, 0, 0, 0))
@@ -173,14 +160,14 @@ def text_justification(session: WmfSession) -> None:
 
 def text_colour(session: WmfSession) -> None:
     """META_SETTEXTCOLOR, which the checker doesn't read."""
-    session.state.text_colour = read_colour(session.fields["colour"], session.state.palette)
+    session.state.text_reference = session.fields["colour"]
     session.keep()
 
 
 def background_colour(session: WmfSession) -> None:
     """META_SETBKCOLOR."""
-    session.state.background = read_colour(session.fields["colour"], session.state.palette)
-    session.keep_with_colour()
+    session.state.back_reference = session.fields["colour"]
+    session.state.background_use = session.keep_with_colour()
 
 
 def move(session: WmfSession) -> None:
@@ -203,92 +190,3 @@ def select_region(session: WmfSession) -> None:
     if session.fields["index"] or not session.state.clip.is_empty:
         raise Fault(FaultName.Unsupported, "META_SELECTCLIPREGION")
     session.replace(Action.CLIP)
-
-
-def select(session: WmfSession) -> None:
-    """META_SELECTOBJECT."""
-    found = session.slots.find(session.fields["index"])
-    state = session.state
-    if isinstance(found, Pen):
-        state.pen = found
-    elif isinstance(found, LogicalFont):
-        state.font = found
-    session.keep()
-
-
-def select_palette(session: WmfSession) -> None:
-    """META_SELECTPALETTE."""
-    found = session.slots.find(session.fields["index"])
-    if isinstance(found, Palette):
-        session.state.palette = found
-    session.keep()
-
-
-def delete(session: WmfSession) -> None:
-    """META_DELETEOBJECT."""
-    session.slots.delete(session.fields["index"])
-    session.keep()
-
-
-def create_pen(session: WmfSession) -> None:
-    """META_CREATEPENINDIRECT."""
-    fields = session.fields
-    is_null = fields["style"] & 15 == _NULL_PEN
-    data = _with_colour(session, is_null)
-    look = None if is_null else _look(session, data)
-    session.slots.add(Pen(abs(fields["width"]), is_null, data, look))
-
-
-def _look(session: WmfSession, data: bytes) -> PenLook | None:
-    """What a pen's record in the output says of its strokes, if they may be replaced."""
-    if not session.has_strokes:
-        return None
-    style, width, reference = session.kind_at_hand.read(data).several("style", "width", "colour")
-    return older_pen(style, width, read_colour(reference, NO_PALETTE))
-
-
-def create_brush(session: WmfSession) -> None:
-    """META_CREATEBRUSHINDIRECT."""
-    _with_colour(session, session.fields["style"] not in (0, 2))
-    session.slots.add(Brush())
-
-
-def _with_colour(session: WmfSession, is_unread: bool) -> bytes:
-    """Keeps the record at hand, or replaces its colour if that is one of the palette; gives what stands in the
-    output.
-    """
-    if is_unread:
-        session.keep()
-    else:
-        session.keep_with_colour()
-    return session.output.entries[-1].records[0]
-
-
-def create_bitmap_brush(session: WmfSession) -> None:
-    """META_DIBCREATEPATTERNBRUSH. A bitmap that the checker doesn't read becomes one of 24 bits."""
-    fields = session.fields
-    usage = 0 if fields["style"] == _PATTERN else fields["usage"]
-    dib = session.data[_BITMAP_AT:]
-    if plays_as_stored(dib, usage):
-        session.keep()
-    else:
-        picture = read_packed(session, dib, usage)
-        record = session.write("META_DIBCREATEPATTERNBRUSH", _DIB_PATTERN, 0, rest=stored_packed(picture))
-        session.replace(Action.BITMAP, [record])
-    session.slots.add(Brush())
-
-
-def create_palette(session: WmfSession) -> None:
-    """META_CREATEPALETTE."""
-    palette = read_palette(session.data, _PALETTE_AT, session.fields["entries"])
-    session.keep()
-    session.slots.add(palette)
-
-
-def create_font(session: WmfSession) -> None:
-    """META_CREATEFONTINDIRECT. The face's name is in the code page of the charset."""
-    fields = session.fields
-    name = session.data[_FACE_AT : _FACE_AT + _FACE_LENGTH].split(b"\0")[0]
-    face = name.decode(_FACE_PAGES.get(fields["charset"], "cp1252"), "replace")
-    session.keep()
-    session.slots.add(logical_font(fields, face))

@@ -7,9 +7,9 @@ from functools import partial
 from typing import NamedTuple
 
 from .affine import Contour, Point
-from .dashes import dashes, gaps, line_of, pattern_of
-from .objects import colour_word
+from .dashes import pattern_of, thin_lines
 from .output import Action
+from .palettes import colour_word
 from .pens import PenLook, PenShape, Way
 from .shapes import Figure
 from .state import ISOTROPIC, page_length
@@ -69,9 +69,12 @@ def _replace(session: WmfSession, figures: Sequence[Figure], action: Action, fil
         session.replace(action)
         return
     session.check_depth()
-    stroke = _stroke(session, shown, look)
     points = [point for figure in shown for point in figure.points]
-    window = FineWindow.around(session.state.page, [*points, *stroke.points], session.state.page.mode == ISOTROPIC)
+    is_even = session.state.page.mode == ISOTROPIC
+    # Figures that have no place in a block are rejected before their strokes, which may be very many, are made.
+    FineWindow.around(session.state.page, points, is_even)
+    stroke = _stroke(session, shown, look)
+    window = FineWindow.around(session.state.page, [*points, *stroke.points], is_even)
     lists = [figure.points for figure in shown if figure.is_closed]
     filled = polygons(window, lists) if fill is None else []
     before = [fill] if fill is not None and lists else []
@@ -102,7 +105,7 @@ def _block(session: WmfSession, before: list[bytes], filled: list[bytes], steps:
 def _steps(session: WmfSession, window: FineWindow, stroke: Stroke, colour: Colour) -> list[_Step]:
     """The steps of a stroke: the polygons, the gaps, and the dashes."""
     is_mirrored = session.state.page.affine().determinant() < 0
-    filled = polygons(window, aligned(stroke.contours, window.units, is_mirrored))
+    filled = polygons(window, aligned(stroke.contours, window.placed, is_mirrored))
     under = [record for points in stroke.gaps for record in lines(window, points)]
     over = [record for points in stroke.dashes for record in lines(window, points)]
     return [
@@ -131,7 +134,5 @@ def _stroke(session: WmfSession, figures: Sequence[Figure], look: PenLook) -> St
     if look.way(measure, session.pixel) is Way.POLYGONS:
         shape = PenShape(measure(look.width), look.cap, look.join, state.miter_limit, pattern)
         return Stroke(stroke_contours(figures, shape, budget), [], [])
-    drawn = [line_of(dash) for figure in figures for dash in dashes(figure, pattern, budget)]
-    if state.background_mode != OPAQUE:
-        return Stroke([], [], drawn)
-    return Stroke([], [line_of(gap) for figure in figures for gap in gaps(figure, pattern, budget)], drawn)
+    under = thin_lines(figures, pattern, budget, False) if state.background_mode == OPAQUE else []
+    return Stroke([], under, thin_lines(figures, pattern, budget, True))

@@ -5,8 +5,8 @@ from __future__ import annotations
 from .affine import Point
 from .doubts import check_text
 from .faults import Fault, FaultName
-from .objects import colour_word
 from .output import Action
+from .palettes import colour_word
 from .records import numbers_at
 from .shapes import bounds
 from .state import ISOTROPIC
@@ -65,7 +65,7 @@ def _replace_text(session: WmfSession, record: TextRecord) -> None:
     if session.texts is None:
         session.keep()
         return
-    check_text(state.doubts, state.align, state.background_mode, record.options)
+    check_text(state.doubts, state.align)
     laid = session.texts.lay_out(record, state.font, state.text_settings(), state.page_to_device())
     fills = text_fills(laid, record, state)
     points = [point for fill in fills.fills for contour in fill.contours for point in contour]

@@ -44,7 +44,7 @@ def kind_of(is_emf: bool, record: bytes) -> int:
     return number(record, 0) if is_emf else number(record, 4, 2)
 
 
-def number(data: bytes, at: int, size: int = 4) -> int:
+def number(data: bytes | bytearray, at: int, size: int = 4) -> int:
     """A number without a sign, the least byte first. Bytes that aren't there count as 0."""
     return int.from_bytes(data[at : at + size], "little")
 

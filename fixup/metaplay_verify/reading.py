@@ -9,11 +9,11 @@ from dataclasses import replace
 
 from .areas import Area, around
 from .files import Metafile, number
+from .palettes import PALETTE_CHANGES, Palette, PaletteChange, entries_of
 from .slots import MAKERS, Slots
 from .state import IDENTITY, Font, State
 
 _LARGEST = 1 << 31
-_UNKNOWN = -1
 _METRIC = {2: (1, 1), 3: (10, 1), 4: (100, 254), 5: (1000, 254), 6: (1440, 254)}
 
 
@@ -30,7 +30,7 @@ class Reader:
         self.is_in_path = False
         self.beyond: set[int] = set()
         self._saved: list[State] = []
-        self._objects: dict[int, Font | tuple[int, ...]] = {}
+        self._objects: dict[int, Font | Palette] = {}
         header = file.records[0] if file.is_emf else file.head
         self._handles = number(header, 56, 2)
         self._device = struct.unpack_from("<4i", header, 72) if file.is_emf else (0, 0, 0, 0)
@@ -59,6 +59,8 @@ class Reader:
         if entry is not None and len(record) >= at + struct.calcsize(f"<{entry[1]}"):
             numbers = struct.unpack_from(f"<{entry[1]}", record, at)
             entry[0](self, *(numbers if self.file.is_emf else numbers[::-1]))
+        elif (self.file.is_emf, kind) in PALETTE_CHANGES:
+            self._change_palette(PALETTE_CHANGES[self.file.is_emf, kind], record)
         elif self.file.is_emf:
             self._see_long(kind, record)
 
@@ -94,6 +96,12 @@ class Reader:
             self._objects[index] = Font(height, width, turned, record[17] != 0, record[18] != 0)
         elif kind == 0x00F7 and len(record) >= 10:
             self._objects[index] = _palette(record, 10, number(record, 8, 2))
+
+    def _change_palette(self, change: PaletteChange, record: bytes) -> None:
+        """A record of EMF names the palette, one of WMF changes the selected one."""
+        found = self._objects.get(number(record, 8)) if self.file.is_emf else self.state.palette
+        if isinstance(found, Palette):
+            change.take(found, record)
 
     def move(self, x: float, y: float) -> None:
         """Moves the position."""
@@ -140,16 +148,6 @@ class Reader:
         old = getattr(self.state, name)
         self._set(name, (old[0] + x, old[1] + y))
 
-    def _set_colour(self, name: str, reference: int) -> None:
-        """A COLORREF ([MS-WMF] 2.2.2.8)."""
-        kind, index, palette = reference >> 24, reference & 0xFFFF, self.state.palette
-        if kind in (0, 2):
-            self._set(name, reference & 0xFFFFFF)
-        elif kind == 1 and index < len(palette):
-            self._set(name, palette[index])
-        else:
-            self._set(name, _UNKNOWN)
-
     def _modify(self, *numbers: float) -> None:
         """[MS-EMF] 2.3.12.1. The products are rounded to singles; a world without an inverse isn't taken."""
         new, mode, old = numbers[:6], numbers[6], self.state.world
@@ -183,9 +181,9 @@ class Reader:
 
     def _select_palette(self, index: int) -> None:
         found = self._objects.get(index)
-        if index == 0x8000000F:
-            self.state.palette = ()
-        elif isinstance(found, tuple) and not isinstance(found, Font):
+        if self.file.is_emf and index == 0x8000000F:
+            self.state.palette = Palette(is_stock=True)
+        elif isinstance(found, Palette):
             self.state.palette = found
 
     def _delete(self, index: int) -> None:
@@ -202,9 +200,11 @@ class Reader:
         self.state.position = Area(x, y, x, y).grown(radius, radius)
 
 
-def _palette(record: bytes, at: int, count: int) -> tuple[int, ...]:
-    whole = min(count, max(0, len(record) - at) // 4)
-    return tuple(number(record, at + 4 * place, 3) for place in range(whole))
+def _palette(record: bytes, at: int, count: int) -> Palette:
+    entries, palette = entries_of(record, at, count), Palette()
+    palette.resize(len(entries) // 4)
+    palette.set(0, entries)
+    return palette
 
 
 def _divided(dividend: int, divisor: int) -> int:
@@ -225,7 +225,7 @@ def _named(method: Change, name: str) -> Change:
     return change
 
 
-_COLOURS = [(_named(Reader._set_colour, name), "I") for name in ("text_colour", "back_colour")]
+_COLOURS = [(_named(Reader._set, name), "I") for name in ("text_reference", "back_reference")]
 _EXTENTS = [_named(Reader._set_extent, name) for name in ("window", "viewport")]
 _SCALES = [_named(Reader._scale, name) for name in ("window", "viewport")]
 _ORIGINS = [_named(Reader._set_pair, name) for name in ("window_origin", "viewport_origin")]

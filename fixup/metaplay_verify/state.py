@@ -3,10 +3,11 @@
 from __future__ import annotations
 
 import math
-from dataclasses import dataclass
+from dataclasses import dataclass, field
 from typing import NamedTuple
 
 from .areas import Area, Pair
+from .palettes import Palette
 
 
 class Font(NamedTuple):
@@ -26,7 +27,7 @@ IDENTITY = (1.0, 0.0, 0.0, 1.0, 0.0, 0.0)
 @dataclass(slots=True)
 class State:
     """A state. The position is a box on the page where it isn't known exactly, and `is_mapped` tells whether the map
-    is known. Colours have red in the lowest byte; one below 0 isn't known.
+    is known. The references are colours as records have them.
     """
 
     mode: int = 1
@@ -36,15 +37,25 @@ class State:
     viewport: Pair = (1, 1)
     world: tuple[float, ...] = IDENTITY
     position: Area = Area(0, 0, 0, 0)
-    text_colour: int = 0
-    back_colour: int = 0xFFFFFF
+    text_reference: int = 0
+    back_reference: int = 0xFFFFFF
     back_mode: int = 2
     align: int = 0
     extra: int = 0
     break_extra: int = 0
     font: Font = Font()
-    palette: tuple[int, ...] = ()
+    palette: Palette = field(default_factory=lambda: Palette(is_stock=True))
     is_mapped: bool = True
+
+    @property
+    def text_colour(self) -> int:
+        """The colour of text, with red in the lowest byte; below 0 if it isn't known."""
+        return self.palette.colour(self.text_reference)
+
+    @property
+    def back_colour(self) -> int:
+        """The same for the background."""
+        return self.palette.colour(self.back_reference)
 
     def device(self, point: Pair) -> Pair:
         """Where a point of the page lies on the device."""

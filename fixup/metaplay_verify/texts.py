@@ -68,8 +68,12 @@ def text_of(record: bytes, reader: Reader, place: int, position: Area) -> Text:
         stages.append(Stage(place, state.back_colour, True, False, area))
     stages.append(Stage(place, state.text_colour, False, False, area))
     lines = state.font.underline + state.font.strike_out
-    stages += [Stage(place, state.text_colour, True, False, area)] * lines
-    return Text(stages, rect if has_area and fields.options & _CLIPPED else None, reach)
+    # A line is at least one device unit thick.
+    stages += [Stage(place, state.text_colour, True, False, area.grown(1, 1))] * lines
+    if not fields.options & _CLIPPED:
+        return Text(stages, None, reach)
+    # A box without an area clips all of the text.
+    return Text(stages, rect, reach) if has_area else Text([], None, reach)
 
 
 def _fields(record: bytes, reader: Reader) -> _Fields:

@@ -28,6 +28,10 @@ class MadeFolder(unittest.TestCase):
             write_font(cls.folder, f"font{number:02}.ttf", made)
         cls.layer = layer_of(cls.folder)
 
+    def write(self, made: MadeFont) -> Path:
+        """Writes another font into the folder, under its family's name."""
+        return write_font(self.folder, f"{made.family}.ttf", made)
+
     @classmethod
     def tearDownClass(cls) -> None:
         cls._temporary.cleanup()

@@ -71,8 +71,7 @@ def _font(source: random.Random) -> LogicalFont:
 
 def _settings(source: random.Random) -> TextSettings:
     extra, break_extra, break_count = (source.choice(NUMBERS) for _ in range(3))
-    black, white = (0, 0, 0), (255, 255, 255)
-    return TextSettings(black, white, source.choice((1, 2)), source.randrange(32), extra, break_extra, break_count)
+    return TextSettings(source.choice((1, 2)), source.randrange(32), extra, break_extra, break_count)
 
 
 def _record(source: random.Random) -> TextRecord:

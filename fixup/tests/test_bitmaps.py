@@ -9,7 +9,7 @@ from metaplay_fixup.bitmaps import plays_as_stored, read_picture, stored
 from metaplay_fixup.blends import SRCAND, SRCCOPY, SRCPAINT, Layer, blended, keyed
 from metaplay_fixup.channels import spread
 from metaplay_fixup.faults import Fault, FaultName
-from metaplay_fixup.objects import NO_PALETTE, Palette
+from metaplay_fixup.palettes import STOCK_PALETTE, Palette
 from metaplay_fixup.options import AlphaRule
 from metaplay_fixup.pictures import Picture
 from metaplay_fixup.sources import Side, cropped, depends_on_source, side
@@ -29,7 +29,7 @@ def header(width: int, height: int, depth: int, compression: int = 0, used: int 
     return struct.pack("<IiiHHIIiiII", 40, width, height, 1, depth, compression, 0, 0, 0, used, 0)
 
 
-def pixels(info: bytes, bits: bytes, usage: int = 0, palette: Palette = NO_PALETTE) -> bytes:
+def pixels(info: bytes, bits: bytes, usage: int = 0, palette: Palette = STOCK_PALETTE) -> bytes:
     """The pixels of a bitmap as 24 bits."""
     return read_picture(info, bits, usage, palette).pixels
 
@@ -65,6 +65,10 @@ class Depths(unittest.TestCase):
         self.assertEqual(pixels(info, b"\0\1\0\0", 1, palette), bytes([6, 5, 4, 3, 2, 1]))
         with self.assertRaises(Fault) as raised:
             pixels(header(2, 1, 8, used=2) + struct.pack("<HH", 2, 0), bytes(4), 1, palette)
+        self.assertEqual(raised.exception.name, FaultName.PaletteColour)
+        # DIB_PAL_INDICES: there is no table at all.
+        with self.assertRaises(Fault) as raised:
+            pixels(header(2, 1, 8, used=2) + bytes(8), bytes(4), 2, palette)
         self.assertEqual(raised.exception.name, FaultName.PaletteColour)
 
     def test_masks(self) -> None:
@@ -106,6 +110,8 @@ class Depths(unittest.TestCase):
             (header(1, 1, 24, 6), bytes(4), FaultName.CompressedDib),
             (header(1, 1, 8, used=257), bytes(4), FaultName.BadDib),
             (header(1, 1, 16, 3) + struct.pack("<III", 0xF00F, 0, 0), bytes(4), FaultName.BadDib),
+            (header(1, 1, 16, 3) + struct.pack("<III", 0x1F0000, 0, 0), bytes(4), FaultName.BadDib),
+            (header(1, 1, 16, 3) + struct.pack("<III", 0, 0x1F000, 0), bytes(4), FaultName.BadDib),
         ]
         for info, bits, name in rows:
             with self.assertRaises(Fault) as raised:
@@ -133,6 +139,11 @@ class Compressed(unittest.TestCase):
         bits = "05 12 00 00 00 03 34 50 00 01"
         self.assertEqual(self.indexes(4, 2, 5, 2, bits), [3, 4, 5, 0, 0, 1, 2, 1, 2, 1])
 
+    def test_padding_of_half_bytes(self) -> None:
+        """A literal fills whole words: one of three has two bytes and one of five four, and runs follow at once."""
+        bits = "00 03 12 30 02 44 00 05 56 78 90 00 01 aa 00 01"
+        self.assertEqual(self.indexes(4, 2, 11, 1, bits), [1, 2, 3, 4, 4, 5, 6, 7, 8, 9, 10])
+
     def test_cut(self) -> None:
         """Runs that end early leave the rest at 0."""
         self.assertEqual(self.indexes(8, 1, 2, 1, "01"), [0, 0])
@@ -142,7 +153,7 @@ class Compressed(unittest.TestCase):
         image = Image.new("RGBA", (2, 1), (10, 20, 30, 40))
         file = io.BytesIO()
         image.save(file, "PNG")
-        picture = read_picture(header(2, 1, 0, 5), file.getvalue(), 0, NO_PALETTE)
+        picture = read_picture(header(2, 1, 0, 5), file.getvalue(), 0, STOCK_PALETTE)
         self.assertEqual((picture.pixels, picture.alpha), (bytes([30, 20, 10] * 2), bytes([40, 40])))
 
     def test_wrong_form(self) -> None:
@@ -151,7 +162,7 @@ class Compressed(unittest.TestCase):
         Image.new("RGB", (2, 1)).save(file, "PNG")
         for data in (file.getvalue(), b"", b"\xff\xd8\xff"):
             with self.assertRaises(Fault) as raised:
-                read_picture(header(2, 1, 0, 4), data, 0, NO_PALETTE)
+                read_picture(header(2, 1, 0, 4), data, 0, STOCK_PALETTE)
             self.assertEqual(raised.exception.name, FaultName.BadDib)
 
     def test_broken_images(self) -> None:
@@ -165,7 +176,7 @@ class Compressed(unittest.TestCase):
                 changed = bytearray(whole[: source.randrange(len(whole) // 2, len(whole) + 1)])
                 changed[source.randrange(len(changed))] = source.randrange(256)
                 try:
-                    read_picture(header(40, 30, 0, compression), bytes(changed), 0, NO_PALETTE)
+                    read_picture(header(40, 30, 0, compression), bytes(changed), 0, STOCK_PALETTE)
                 except Fault as fault:
                     self.assertEqual(fault.name, FaultName.BadDib)
 
@@ -174,7 +185,7 @@ class Compressed(unittest.TestCase):
         file = io.BytesIO()
         Image.new("1", (20000, 20000)).save(file, "PNG")
         with self.assertRaises(Fault) as raised:
-            read_picture(header(1, 1, 0, 5), file.getvalue(), 0, NO_PALETTE)
+            read_picture(header(1, 1, 0, 5), file.getvalue(), 0, STOCK_PALETTE)
         self.assertEqual(raised.exception.name, FaultName.BadDib)
 
 
@@ -228,6 +239,12 @@ class Blends(unittest.TestCase):
         self.assertEqual(blended(self.picture(0, 0), 0x01FF0000, AlphaRule.REFUSE), [])
         self.assertEqual(blended(whole, 0x01000000, AlphaRule.REFUSE), [])
         self.assertEqual(blended(self.picture(7), 0x00FF0000, AlphaRule.REFUSE), [Layer(self.picture(7), SRCCOPY)])
+
+    def test_no_alpha(self) -> None:
+        """A picture that came with fewer than 32 bits has no byte for alpha."""
+        with self.assertRaises(Fault) as raised:
+            blended(Picture(1, 1, bytes(3), None), 0x01FF0000, AlphaRule.WHITE)
+        self.assertEqual(raised.exception.name, FaultName.BadDib)
 
     def test_masked(self) -> None:
         """A mask that keeps what is below where nothing is drawn, and ink where something is."""

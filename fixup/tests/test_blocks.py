@@ -9,7 +9,7 @@ from metaplay_fixup.faults import Fault, FaultName
 from metaplay_fixup.fixed import ONE
 from metaplay_fixup.state import PageMap
 from metaplay_fixup.text import Box
-from metaplay_fixup.wmf_blocks import FineWindow
+from metaplay_fixup.wmf_blocks import FineWindow, polygons
 
 from .oracle import emf_file
 
@@ -91,6 +91,21 @@ class FineWindows(unittest.TestCase):
         points = [Point(0, 0), Point(2000 * ONE, 0)]
         self.assertEqual(FineWindow.around(self.PAGE, points, False).factors, (16, 256))
         self.assertEqual(FineWindow.around(self.PAGE, points, True).factors, (16, 16))
+
+    def test_room_for_the_origin(self) -> None:
+        """The window's origin of 5,000 units from the drawing, too, has 32,767 / 5,001 parts."""
+        page = PageMap(8, Point(5000, 0), Point(100, 100), Point(0, 0), Point(100, 100))
+        window = FineWindow.around(page, [Point(-5000 * ONE, 0), Point(-5000 * ONE, ONE)], False)
+        self.assertEqual((window.base, window.factors, window.origin), ((0, 0), (6, 256), (30000, 0)))
+
+    def test_long_lists(self) -> None:
+        """A list of a WMF has at most 32,767 points."""
+        window = FineWindow.around(self.PAGE, [Point(0, 0), Point(50 * ONE, 0)], False)
+        points = [Point(place % 50 * ONE, 0) for place in range(32768)]
+        self.assertEqual(len(polygons(window, [points[:-1]])), 1)
+        with self.assertRaises(Fault) as raised:
+            polygons(window, [points])
+        self.assertEqual(raised.exception.name, FaultName.TooManyEdges)
 
     def test_no_room(self) -> None:
         """A window whose origin doesn't fit 16 bits from the drawing."""

@@ -90,6 +90,16 @@ class Folders(unittest.TestCase):
         styles = [(file.style, file.is_bold, file.is_italic) for file in found]
         self.assertEqual(styles, [("Bold Italic", True, True), ("Light", False, False), ("Black", True, False)])
 
+    def test_styles_in_every_language(self) -> None:
+        """The English one is that of the report."""
+        path = self.write("a.ttf", MadeFont("Squares", "Bold"))
+        font = TTFont(path)
+        for language, style in ((0x407, "Fett"), (0x40C, "Gras")):
+            font["name"].setName(style, 2, 3, 1, language)
+        font.save(path)
+        (file,) = Catalogue.of_folders([self.folder]).named("Squares")
+        self.assertEqual(file.style, "Bold")
+
     def test_full_names(self) -> None:
         self.write("a.ttf", MadeFont("Squares", "Light"))
         found = Catalogue.of_folders([self.folder]).named("Squares Light")

@@ -12,10 +12,10 @@ from metaplay_fixup.catalogue import Catalogue
 from metaplay_fixup.choice import FontChooser, FontRules
 from metaplay_fixup.faults import Fault
 from metaplay_fixup.layer import FontLayer
-from metaplay_fixup.text import Choice, LogicalFont
+from metaplay_fixup.text import ADVANCED, BASELINE, UPDATE_POSITION, Choice, LogicalFont
 
-from .made_fonts import A, MadeFont, write_font
-from .texts import FONT, TOLERANCE, Case, boxes, lay
+from .made_fonts import SPACE, A, MadeFont, write_font
+from .texts import FONT, TOLERANCE, Case, boxes, lay, units
 
 MS_GOTHIC = "\uff2d\uff33 \u30b4\u30b7\u30c3\u30af"
 REGULAR, BOLD, ITALIC = 0x40, 0x20, 0x01
@@ -25,6 +25,11 @@ MADE = (
     MadeFont("Liberation Sans", "Italic", selection=ITALIC),
     MadeFont("Liberation Sans", "Bold Italic", weight=700, selection=BOLD | ITALIC),
     MadeFont("Nimbus Sans"),
+    MadeFont("Tinos"),
+    MadeFont("Nimbus Roman"),
+    MadeFont("Cousine"),
+    MadeFont("Nimbus Mono PS"),
+    MadeFont("Nimbus Mono PS", "Bold", weight=700, selection=BOLD),
     MadeFont("Demi", "Demi", weight=600, selection=0),
     MadeFont("Plain"),
     MadeFont("Plain", "Bold", weight=700, selection=BOLD),
@@ -34,6 +39,7 @@ MADE = (
     MadeFont("Greek", characters={0x391: A}),
     MadeFont("Small", characters={0x392: A}, units_per_em=2000),
     MadeFont("Curly", characters={0x393: A}, is_postscript=True),
+    MadeFont("Empty", characters={0x395: SPACE}),
     MadeFont("Restricted", permission=0x0002),
     MadeFont("Bitmaps", permission=0x0200),
     MadeFont("Preview", permission=0x0104),
@@ -101,15 +107,28 @@ class Choices(MadeFamilies):
         self.assertEqual(self.choose(face("Slanted")), ("Slanted", "Italic", Choice.FAMILY, False))
 
     def test_a_missing_bold_is_rejected(self) -> None:
-        self.assert_missing(face("Nimbus Sans", weight=700), "MissingBold (Nimbus Sans)")
-        self.assert_missing(face("Nimbus Sans", weight=551, italic=True), "MissingBold (Nimbus Sans)")
+        self.assert_missing(face("Greek", weight=700), "MissingBold (Greek)")
+        self.assert_missing(face("Greek", weight=551, italic=True), "MissingBold (Greek)")
+        self.assert_missing(face("Greek", weight=700), "MissingBold (Greek)", FontRules(instead="Plain"))
+
+    def test_a_missing_bold_of_a_family_with_equal_widths(self) -> None:
+        """Nimbus Sans has no bold, but Liberation Sans has; Tinos and Nimbus Roman both have none."""
+        for italic, style in ((False, "Bold"), (True, "Bold Italic")):
+            found = self.choose(face("Nimbus Sans", weight=700, italic=italic))
+            self.assertEqual(found, ("Liberation Sans", style, Choice.TABLE, False))
+        self.assertEqual(self.choose(face("Nimbus Sans", weight=550))[:2], ("Nimbus Sans", "Regular"))
+        for name in ("Tinos", "Times", "Nimbus Roman"):
+            self.assert_missing(face(name, weight=700), f"MissingBold ({name})", FontRules(instead="Plain"))
+        self.assertEqual(self.choose(face("Courier", weight=700))[:3], ("Nimbus Mono PS", "Bold", Choice.TABLE))
+        self.assertEqual(self.choose(face("Courier"))[:3], ("Cousine", "Regular", Choice.TABLE))
+        self.assertEqual(self.choose(face("Arimo"))[:3], ("Liberation Sans", "Regular", Choice.TABLE))
 
     def test_bold_by_another_rule(self) -> None:
         """A map, and --instead, must lead to a family with a bold one too."""
         bold = face("Verdana", weight=700)
         for rules in (FontRules(maps={"Verdana": "Plain"}), FontRules(instead="Plain")):
             self.assertEqual(self.choose(bold, rules)[:2], ("Plain", "Bold"))
-        for rules in (FontRules(maps={"Verdana": "Nimbus Sans"}), FontRules(instead="Nimbus Sans")):
+        for rules in (FontRules(maps={"Verdana": "Greek"}), FontRules(instead="Greek")):
             self.assert_missing(bold, "MissingBold (Verdana)", rules)
 
     def test_a_missing_slant_is_made(self) -> None:
@@ -158,6 +177,8 @@ class Choices(MadeFamilies):
     def test_permissions(self) -> None:
         for family in ("Restricted", "Bitmaps"):
             self.assert_missing(face(family), f"EmbeddingNotAllowed ({family})", FontRules(instead="Plain"))
+            mapped = FontRules(maps={"Verdana": family})
+            self.assert_missing(face("Verdana"), f"EmbeddingNotAllowed ({family}, for Verdana)", mapped)
         for family in ("Preview", "Editable", "Either"):
             self.assertEqual(self.choose(face(family))[0], family)
 
@@ -180,12 +201,24 @@ class Fallbacks(MadeFamilies):
         found = self.lay("\u0392A", ("Small",))
         self.assertEqual(found, ([(100, 175, 125, 200), (130, 150, 180, 200)], ("Small",)))
 
+    def test_position_after_an_em_of_other_units(self) -> None:
+        """The advance of 600 of 2,000 units is 30, and that of 600 of 1,000 is 60."""
+        layer = FontLayer(FontChooser(self.catalogue, FontRules(fallbacks=("Small",))), TOLERANCE)
+        case = Case().of("\u0392A").with_font(face="Plain").with_settings(align=BASELINE | UPDATE_POSITION)
+        self.assertEqual(lay(layer, case).position, (190, 200))
+
+    def test_a_fallback_without_an_outline(self) -> None:
+        """A letter of bitmaps, or without any picture, can't stand in."""
+        with self.assertRaises(Fault) as caught:
+            self.lay("\u0395", ("Empty",))
+        self.assertEqual(str(caught.exception), "MissingGlyph (U+0395 in Plain has no outline)")
+
     def test_fallbacks_are_opened_in_turn(self) -> None:
         """A font that isn't needed may be one that can't be used."""
         self.assertEqual(self.lay("\u0391", ("Greek", "Restricted"))[1], ("Greek",))
         with self.assertRaises(Fault) as caught:
             self.lay("\u0391", ("Restricted", "Greek"))
-        self.assertEqual(str(caught.exception), "EmbeddingNotAllowed (Restricted)")
+        self.assertEqual(str(caught.exception), "EmbeddingNotAllowed (Restricted, for Plain)")
 
     def test_fallbacks_without_a_bold_are_passed_over(self) -> None:
         chooser = FontChooser(self.catalogue, FontRules(fallbacks=("Greek", "Liberation Sans", "Small")))
@@ -206,11 +239,16 @@ class Fallbacks(MadeFamilies):
         self.assertEqual(second[start:] + second[:start], first)
 
     def test_a_made_slant(self) -> None:
-        """x moves by 0x366A / 65536 of y: by 50 * 13930 / 65536 units at the top, which is 11,144,000 / 2^20."""
+        """x moves by a quarter of y: by 12.5 units at the top, 50 above the baseline, whatever the width is."""
         layer = FontLayer(FontChooser(self.catalogue, FontRules()), TOLERANCE)
         laid = lay(layer, Case().with_font(face="Plain", italic=True))
-        left = 100 << 20
-        self.assertEqual([point.x for point in laid.glyphs[0]][:2], [left, left + 11144000])
+        self.assertEqual(units(laid.glyphs[0]), [(100, 200), (112.5, 150), (162.5, 150), (150, 200)])
+        narrow = lay(layer, Case().with_font(face="Plain", italic=True, width=25))
+        self.assertEqual(units(narrow.glyphs[0]), [(100, 200), (112.5, 150), (137.5, 150), (125, 200)])
+        advanced = Case().with_record(graphics_mode=ADVANCED).with_font(face="Plain", italic=True, width=25)
+        self.assertEqual(lay(layer, advanced).glyphs, narrow.glyphs)
+        down = Case().with_font(face="Plain", italic=True, escapement=2700)
+        self.assertEqual(units(lay(layer, down).glyphs[0]), [(100, 200), (150, 212.5), (150, 262.5), (100, 250)])
         self.assertTrue(laid.note.made_slant)
 
     def test_a_made_slant_of_a_fallback(self) -> None:

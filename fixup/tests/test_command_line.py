@@ -40,9 +40,10 @@ class Words(unittest.TestCase):
         self.assertEqual(asked.rules, FontRules({"arial": "Carlito", "foo": "Bar=Baz"}, "I", ("F", "G")))
 
     def test_rules(self) -> None:
-        asked = self.read("--text-only --alpha white a --drop-emf-plus --bound 512 b --code-page 932 --report r")
+        asked = self.read("--alpha white a --drop-emf-plus --bound 512 b --code-page 932 --report r")
         self.assertEqual(asked.works, (Work("a", Path("b")),))
-        self.assertEqual(asked.options, Options(512, AlphaRule.WHITE, True, True))
+        self.assertEqual(asked.options, Options(512, AlphaRule.WHITE, False, True))
+        self.assertEqual(self.read("a --text-only b").options, Options(text_only=True))
         self.assertEqual((asked.code_page, asked.report), ("cp932", Path("r")))
 
     def test_check(self) -> None:
@@ -123,9 +124,11 @@ class WrongWords(unittest.TestCase):
         self.assert_wrong("--out-dir d stdin", "has no name")
         self.assert_wrong("--out-dir d /", "has no name")
 
-    def test_strokes(self) -> None:
-        """Text alone leaves strokes as they are."""
-        self.assert_wrong("a b --strokes --text-only", "--text-only leaves strokes")
+    def test_text_only(self) -> None:
+        """Options about anything but text don't go with it; the promise of --verify couldn't hold."""
+        for option in ("--strokes", "--drop-emf-plus", "--alpha white"):
+            for line in (f"a b {option} --text-only", f"--out-dir d --text-only {option} a"):
+                self.assert_wrong(line, f"{option.split()[0]} doesn't go with --text-only")
 
     def test_verify(self) -> None:
         """--verify goes with --text-only alone."""

@@ -47,9 +47,10 @@ class Beziers(unittest.TestCase):
         """Each end of a chord is the curve's point, rounded to the nearest fixed unit."""
         for curve in CURVES:
             count = curve.chords(TOLERANCE)
-            for step in range(count + 1):
+            points = curve.points(count)
+            self.assertEqual(len(points), count - 1)
+            for step, point in enumerate(points, 1):
                 x, y = on_curve(curve, Fraction(step, count))
-                point = curve.point(step, count)
                 self.assertLessEqual(max(abs(point.x - x), abs(point.y - y)), Fraction(1, 2))
 
     def test_within_tolerance(self) -> None:
@@ -177,10 +178,11 @@ class Arcs(unittest.TestCase):
 
     def test_corners_larger_than_the_box(self) -> None:
         """They make an ellipse."""
-        points = self.BOX.round_rectangle(Point(500, -500), Budget(TOLERANCE))
         middle = [(100, 30), (50, 60), (0, 30), (50, 0)]
-        for x, y in middle:
-            self.assertIn((x * ONE, y * ONE), points)
+        for corner in (Point(500, -500), Point(-500, 500)):
+            points = self.BOX.round_rectangle(corner, Budget(TOLERANCE))
+            for x, y in middle:
+                self.assertIn((x * ONE, y * ONE), points)
 
 
 if __name__ == "__main__":

@@ -4,7 +4,7 @@ import unittest
 
 from metaplay_fixup.affine import Point
 from metaplay_fixup.budgets import Budget
-from metaplay_fixup.dashes import dashes, gaps, whole
+from metaplay_fixup.dashes import along_axis, along_line, dashes, gaps, whole
 from metaplay_fixup.faults import Fault, FaultName
 from metaplay_fixup.fixed import ONE
 from metaplay_fixup.pens import Cap
@@ -19,7 +19,7 @@ class Dashes(unittest.TestCase):
     def cut(self, pattern: tuple[int, ...], is_closed: bool, *numbers: int) -> list[list[Point]]:
         """The points of a figure's dashes."""
         lengths = tuple(length * ONE for length in pattern)
-        found = dashes(Figure(points(*numbers), is_closed), lengths, Budget(TOLERANCE))
+        found = dashes(Figure(points(*numbers), is_closed), lengths, Budget(TOLERANCE), along_line)
         self.assertTrue(all(not dash.is_closed for dash in found))
         return [dash.points for dash in found]
 
@@ -33,9 +33,23 @@ class Dashes(unittest.TestCase):
 
     def test_gaps(self) -> None:
         """Gaps are what the dashes leave."""
-        left = gaps(Figure(points(0, 0, 4, 0, 4, 11), False), (6 * ONE, 2 * ONE), Budget(TOLERANCE))
+        left = gaps(Figure(points(0, 0, 4, 0, 4, 11), False), (6 * ONE, 2 * ONE), Budget(TOLERANCE), along_line)
         self.assertEqual([gap.points for gap in left], [points(4, 2, 4, 4), points(4, 10, 4, 11)])
-        self.assertEqual(gaps(Figure(points(0, 0, 4, 0), False), (6 * ONE, 2 * ONE), Budget(TOLERANCE)), [])
+        self.assertEqual(gaps(Figure(points(0, 0, 4, 0), False), (6 * ONE, 2 * ONE), Budget(TOLERANCE), along_line), [])
+
+    def test_along_an_axis(self) -> None:
+        """A thin pen counts pixels on the longer axis, so a dash of 6 goes 6 across and 3 down; at a corner it goes on.
+
+        Along the line itself a dash of 5 goes 3 across and 4 down.
+        """
+        steep = Figure(points(0, 0, 20, 10, 20, 18), False)
+        lines = [dash.points for dash in dashes(steep, (6 * ONE, 2 * ONE), Budget(TOLERANCE), along_axis)]
+        self.assertEqual(
+            lines, [points(0, 0, 6, 3), points(8, 4, 14, 7), points(16, 8, 20, 10, 20, 12), points(20, 14, 20, 18)]
+        )
+        spaces = [gap.points for gap in gaps(steep, (6 * ONE, 2 * ONE), Budget(TOLERANCE), along_axis)]
+        self.assertEqual(spaces, [points(6, 3, 8, 4), points(14, 7, 16, 8), points(20, 12, 20, 14)])
+        self.assertEqual(self.cut((5, 5), False, 0, 0, 9, 12), [points(0, 0, 3, 4), points(6, 8, 9, 12)])
 
     def test_cut_at_a_corner(self) -> None:
         """A dash that ends at a corner doesn't turn, and one that begins there doesn't either."""
@@ -58,7 +72,7 @@ class Dashes(unittest.TestCase):
         """A closed figure that is shorter than the first dash stays closed; an open one stays whole."""
         for is_closed in (False, True):
             figure = Figure(points(0, 0, 4, 0, 4, 3), is_closed)
-            self.assertEqual(dashes(figure, (12 * ONE, ONE), Budget(TOLERANCE)), whole(figure))
+            self.assertEqual(dashes(figure, (12 * ONE, ONE), Budget(TOLERANCE), along_line), whole(figure))
 
     def test_dots(self) -> None:
         """Dashes without length are squares along the line: here along (3, 4), with sides of 10."""
@@ -82,7 +96,7 @@ class Dashes(unittest.TestCase):
     def test_too_many(self) -> None:
         """A line with more dashes than a file may have is rejected before it is cut."""
         with self.assertRaises(Fault) as raised:
-            dashes(Figure(points(0, 0, 1 << 30, 0), False), (1, 1), Budget(TOLERANCE))
+            dashes(Figure(points(0, 0, 1 << 30, 0), False), (1, 1), Budget(TOLERANCE), along_line)
         self.assertIs(raised.exception.name, FaultName.TooManyEdges)
 
 

@@ -10,6 +10,8 @@ from metaplay_fixup.options import Options
 from .emf_records import PARTS, block, contents, converted, modify, world
 from .oracle import NO_BOUNDS, emf_file, emf_record, emf_script, i16, i32, parted_bitmap, u32
 from .parts import number, records_of
+from .squares import Squares
+from .text_records import text
 
 
 class Kept(unittest.TestCase):
@@ -56,6 +58,48 @@ class Objects(unittest.TestCase):
             with self.assertRaises(Fault) as raised:
                 convert(emf_file([emf_record(39, u32(index, 0, 0, 0))]), Options(), None)
             self.assertEqual((raised.exception.name, raised.exception.record), (FaultName.NoSuchHandle, 1))
+
+    def test_most_indexes(self) -> None:
+        """The header counts at most 65,535 objects, of which a block may need one."""
+        script = emf_script("styled_pen 0 0 3 0xff0000; select 0; polyline 0 0 1 1")
+        records = [*script[:2], world(2, 0, 0, 8, 0, 0), script[2]]
+        data = convert(emf_file(records, handles=0xFFFE), Options(), None).data
+        self.assertEqual(number(data, 56, 2), 0xFFFF)
+        with self.assertRaises(Fault) as raised:
+            convert(emf_file(records, handles=0xFFFF), Options(), None)
+        self.assertEqual(raised.exception.name, FaultName.TableFull)
+
+    def test_fonts_of_the_stock(self) -> None:
+        """[MS-EMF] 2.1.31: OEM_FIXED_FONT has the OEM charset, the others don't."""
+        for stock in (10, 11, 12, 13, 14, 16, 17):
+            squares = Squares()
+            convert(emf_file([emf_record(37, u32(0x80000000 + stock)), text("a", 20, 30)]), Options(), squares)
+            self.assertEqual([asked.charset for _, asked, _ in squares.asked], [255 if stock == 10 else 0])
+
+    def test_thin_pens(self) -> None:
+        """DC_PEN of the stock, and a cosmetic pen, whatever width it has, are as thin under a world of 2 by 8."""
+        wide, line = emf_script("styled_pen 0 0 3 0xff0000; select 0"), emf_script("polyline 0 0 1 1")
+        cosmetic = [emf_record(95, u32(2, 0, 0, 0, 0, 0, 5, 0, 0xFF, 0, 0)), emf_record(37, u32(2))]
+        placed = emf_record(87, i32(0, 0, 2, 8) + u32(2) + i16(0, 0, 2048, 8192))
+        for thin in ([emf_record(37, u32(0x80000013))], cosmetic):
+            self.assertEqual(contents([*wide, *thin, world(2, 0, 0, 8, 0, 0), *line]), [block(0, 0, placed)])
+
+    def test_pen_without_a_colour(self) -> None:
+        """A pen with BS_NULL draws nothing, so it needs no colour that a palette has."""
+        numbers = (1, 0, 0, 0, 0, 0x10000, 4, 1, 0x01000007, 0, 0)
+        data = emf_file([emf_record(95, u32(*numbers)), emf_record(37, u32(1)), *emf_script("polyline 0 0 1 1")])
+        self.assertEqual(convert(data, Options(), None), Converted(data, ()))
+
+    def test_deletions_of_nothing(self) -> None:
+        """A deletion of what isn't there, or of a stock object, is left out; that of an object stays."""
+        make, drop = emf_record(39, u32(2, 0, 0xFF, 0)), emf_record(40, u32(2))
+        for index in (0, 1, 99, 0x80000007):
+            (place,) = converted([make, emf_record(40, u32(index)), drop])
+            self.assertEqual((place.first, place.count, place.records), (2, 1, []))
+        (place,) = converted([make, drop, drop])
+        self.assertEqual((place.first, place.count, place.records), (3, 1, []))
+        data = emf_file([emf_record(40, u32(1))])
+        self.assertEqual(convert(data, Options(text_only=True), None), Converted(data, ()))
 
 
 class Worlds(unittest.TestCase):

@@ -8,6 +8,7 @@ from metaplay_fixup.options import Options
 
 from .emf_records import PARTS, contents, converted, map_to, world
 from .oracle import emf_file, emf_record, emf_script, i32, u32
+from .parts import places_of
 
 
 class Clips(unittest.TestCase):
@@ -58,6 +59,33 @@ class Clips(unittest.TestCase):
         self.assertEqual(removal[0], emf_record(75, u32(0, 5)))
         self.assertEqual(removal[6], emf_record(30, i32(PARTS, PARTS, 5 * PARTS, 5 * PARTS)))
 
+    def test_meta_region_with_a_cut(self) -> None:
+        """What was cut out before SETMETARGN is cut out again."""
+        meta, removal = contents([*emf_script("cut 1 1 5 5"), emf_record(28), *emf_script("pixel 1 1; unclip")])
+        cut = emf_record(29, i32(PARTS, PARTS, 5 * PARTS, 5 * PARTS))
+        back = [emf_record(17, u32(1)), emf_record(10, i32(0, 0)), emf_record(12, i32(0, 0))]
+        self.assertEqual((meta, removal), ([], [emf_record(75, u32(0, 5)), *map_to(0, 0), cut, *back]))
+
+    def test_empty_path(self) -> None:
+        """Nothing is left of the clip."""
+        (records_there,) = contents([*emf_script("begin_path; end_path"), emf_record(67, u32(5))])
+        self.assertEqual(records_there[0], emf_record(75, u32(0, 5)))
+        self.assertEqual(records_there[6], emf_record(30, i32(0, 0, 0, 0)))
+
+    def test_region_that_is_left_out(self) -> None:
+        """RGN_DIFF ([MS-EMF] 2.1.29) cuts the region's boxes out of the clip, which stays."""
+        region = u32(32, 1, 2, 32) + i32(0, 0, 9, 9) + i32(0, 0, 2, 9) + i32(5, 0, 9, 9)
+        cuts = [emf_record(29, i32(left * PARTS, 0, right * PARTS, 9 * PARTS)) for left, right in ((0, 2), (5, 9))]
+        back = [emf_record(17, u32(1)), emf_record(10, i32(0, 0)), emf_record(12, i32(0, 0))]
+        record = emf_record(75, u32(len(region), 4) + region)
+        self.assertEqual(contents([record]), [[*map_to(0, 0), *cuts, *back]])
+
+    def test_order_of_replacements(self) -> None:
+        """A path's records are replaced when a clip uses it; the report has them before a deletion that was first."""
+        records = [*emf_script("begin_path; polygon 1 1 5 1 5 4 1 4; end_path"), emf_record(40, u32(1))]
+        result = convert(emf_file([*records, emf_record(67, u32(1))]), Options(), None)
+        self.assertEqual([replacement.record for replacement in result.replacements], [1, 2, 3, 4, 5])
+
     def test_faults(self) -> None:
         """Paths that aren't a box, and modes that join regions."""
         triangle = [*emf_script("begin_path; polygon 1 1 5 1 5 4; end_path"), emf_record(67, u32(1))]
@@ -88,6 +116,18 @@ class Extents(unittest.TestCase):
         (place,) = converted(records)
         expected = [emf_record(17, u32(8)), emf_record(9, i32(10, 10)), emf_record(11, i32(4, -4))]
         self.assertEqual((place.records, place.count), (expected, 2))
+
+    def test_sides_of_the_device(self) -> None:
+        """1,000 by 500 pixels on 200 by 100 mm: 2,000 by 1,000 tenths of a millimetre; the map comes back so too."""
+        data = emf_file([emf_record(17, u32(2)), *emf_script("pixel 1 1"), world(1, 0, 0, 1, 1, 2)])
+        (end, keep) = (data[-20:], emf_script("keep 1 1 5 5")[0])
+        data = data[:72] + i32(1000, 500, 200, 100) + data[88:-20] + keep + end
+        first, second = places_of(data, convert(data, Options(), None).data)
+        extents = [emf_record(9, i32(2000, 1000)), emf_record(11, i32(1000, -500))]
+        self.assertEqual(first.records, [emf_record(17, u32(8)), *extents])
+        origins = [emf_record(10, i32(0, 0)), emf_record(12, i32(0, 0))]
+        back = [emf_record(17, u32(8)), origins[0], extents[0], origins[1], extents[1]]
+        self.assertEqual(second.records[-5:], back)
 
     def test_zero(self) -> None:
         """An extent of 0 is ZeroExtent."""

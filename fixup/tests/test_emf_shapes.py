@@ -7,7 +7,7 @@ from metaplay_fixup.convert import convert
 from metaplay_fixup.faults import Fault, FaultName
 from metaplay_fixup.options import Options
 
-from .emf_records import PARTS, block, contents, world
+from .emf_records import PARTS, block, contents, modify, world
 from .oracle import NO_BOUNDS, emf_file, emf_record, emf_script, i16, i32, refusal_of, u32
 from .parts import number, places_of
 
@@ -70,6 +70,47 @@ class Paths(unittest.TestCase):
         numbers = [0, 0, 4096, 0, 4096, 4096, 0, 0, 1024, 1024, 2048, 2048]
         lines = emf_record(90, i32(10, 0, 14, 4) + u32(2, 6, 4, 2) + i16(*numbers))
         self.assertEqual(contents(records)[-1], block(10, 0, lines))
+
+    def test_position_after_an_arc(self) -> None:
+        """EMR_ARCTO leaves the position at the arc's end: from the right end of the ellipse to its top."""
+        arc = emf_record(55, i32(0, 0, 80, 60, 80, 30, 40, 0))
+        (place,) = contents([*emf_script("move 80 30"), arc, *emf_script("line 9 9")])
+        self.assertEqual(place[-1], emf_record(27, i32(40, 0)))
+
+    def test_saved_position_in_a_path(self) -> None:
+        """Where lines of a path are gone, a state that was saved between has a position that the player hasn't."""
+        begin, move, line, *rest = emf_script("begin_path; move 0 0; line 4 0; end_path; stroke_path; restore -1")
+        records = [begin, move, line, emf_record(33), emf_record(42, i32(1, 1, 9, 9)), *rest]
+        self.assertEqual(contents([*records, *emf_script("line 7 7")])[-1][-1], emf_record(27, i32(4, 0)))
+
+    def test_position_before_a_path(self) -> None:
+        """Where a line that moved the position is gone, the first line of a path that stays gets it."""
+        line, *path = emf_script("line 3 1; begin_path; line 4 9; line 5 9; end_path; stroke_path")
+        records = [world(2, 0, 0, 2, 0, 0), line, modify(1, 0, 0, 0, 0, 0, 0), *path]
+        self.assertEqual(contents(records)[1:], [[emf_record(27, i32(3, 1))]])
+
+    def test_line_after_a_polygon(self) -> None:
+        """A polygon is closed and leaves the position, so a line after it is another figure."""
+        script = "begin_path; move 1 1; polygon 5 5 9 5 9 9; line 2 2; end_path; stroke_path"
+        numbers = [0, 0, 4096, 0, 4096, 4096, 0, 0, -4096, -4096, -3072, -3072]
+        lines = emf_record(90, i32(11, 1, 19, 9) + u32(2, 6, 4, 2) + i16(*numbers))
+        self.assertEqual(contents([world(1, 0, 0, 1, 10, 0), *emf_script(script)])[-1], block(15, 5, lines))
+
+    def test_stroked_and_filled(self) -> None:
+        """EMR_STROKEANDFILLPATH closes the figures that are open ([MS-EMF] 2.3.5.38)."""
+        script = emf_script("begin_path; move 0 0; line 4 0; line 4 4; end_path")
+        records = [world(1, 0, 0, 1, 10, 0), *script, emf_record(63, NO_BOUNDS)]
+        polygon = emf_record(86, i32(10, 0, 14, 4) + u32(3) + i16(0, 0, 4096, 0, 4096, 4096))
+        self.assertEqual(contents(records)[-1], block(10, 0, polygon))
+
+    def test_dropped_path(self) -> None:
+        """After EMR_ABORTPATH drawings are shown, and another path may begin."""
+        dropped = [*emf_script("begin_path; line 4 4"), emf_record(68)]
+        data = emf_file([*dropped, *emf_script("begin_path; polygon 1 1 9 1 9 9; end_path; fill_path")])
+        self.assertEqual(convert(data, Options(), None).data, data)
+        line = emf_record(87, i32(0, 0, 10, 0) + u32(2) + i16(0, 0, 10240, 0))
+        records = [*dropped, world(2, 0, 0, 2, 0, 0), *emf_script("polyline 0 0 5 0")]
+        self.assertEqual(contents(records), [block(0, 0, line)])
 
     def test_position_after_a_path(self) -> None:
         """Where lines of a path are gone, the next line that stays gets its position."""

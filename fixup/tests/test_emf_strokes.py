@@ -216,6 +216,25 @@ class EmfStrokes(unittest.TestCase):
         self.assertEqual(opaque, [SAVE, *map_to(10, 10), *under, *thin_pen(), dashes, RESTORE, DELETE])
         extended = self.only([*emf_script("back_mode 2"), *long_pen(1, 1), *line])
         self.assertEqual(extended, clear)
+        steep = self.only([*emf_script("back_mode 1"), *old_pen(1, 1), *emf_script("polyline 10 10 22 34")])
+        self.assertEqual(steep[8], line16((10, 10, 19, 28), 0, 0, 9, 18))
+
+    def test_picture_of_thin_dashes(self) -> None:
+        """On a surface with a pixel for each of the device, PS_DASH shows 18 pixels and leaves out 6."""
+        line = [*emf_script("back_mode 1"), *old_pen(1, 1), *emf_script("polyline 10 10 90 10")]
+        picture = picture_of(convert(emf_file(line), Options(bound=100, strokes=True), None).data, 100, 100)
+        shown = "".join("#" if picture[3 * at : 3 * at + 3] != WHITE_PIXEL else "." for at in range(1000, 1100))
+        self.assertEqual(shown, "." * 10 + ("#" * 18 + "." * 6) * 3 + "#" * 8 + "." * 10)
+
+    def test_thin_patterns(self) -> None:
+        """A thin geometric pen: dashes of 3 pixels and gaps of 1. A cosmetic pattern of 1 and 2: 3 and 6 pixels."""
+        line = emf_script("polyline 10 10 20 10")
+        numbers = [number * PARTS for number in (0, 0, 3, 0, 4, 0, 7, 0, 8, 0, 10, 0)]
+        geometric = self.only([*long_pen(GEOMETRIC | FLAT | MITER | DASHED, 1), *line])
+        self.assertEqual(geometric[8], emf_record(90, i32(10, 10, 20, 10, 3, 6, 2, 2, 2) + i16(*numbers)))
+        numbers = [number * PARTS for number in (0, 0, 3, 0, 9, 0, 10, 0)]
+        own = self.only([*long_pen(7, 1, 1, 2), *line])
+        self.assertEqual(own[8], emf_record(90, i32(10, 10, 20, 10, 2, 4, 2, 2) + i16(*numbers)))
 
     def test_kept(self) -> None:
         """Pens that the player's box draws, and null pens, stay; so does everything where only text is replaced."""

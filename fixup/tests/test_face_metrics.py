@@ -58,6 +58,8 @@ class Metrics(unittest.TestCase):
         self.assertEqual(
             [substituted(face) for face in ("arial", "calibri", "calibri ce")], ["arial", "calibri", "calibri ce"]
         )
+        scripts = [f"{face} {script}" for face in ("courier new", "times new roman") for script in ("ce", "tur")]
+        self.assertEqual([substituted(face) for face in scripts], ["courier new"] * 2 + ["times new roman"] * 2)
         self.assertEqual(equal_families("times")[:2], ("times new roman", "liberation serif"))
         self.assertEqual((equal_families("calibri"), equal_families("verdana")), (("carlito",), ()))
 
@@ -91,9 +93,10 @@ class Widths(MadeFolder):
         self.assertEqual(boxes(lay(self.layer, case).glyphs), [(100, 150, 125, 200)])
 
     def test_top_of_a_named_face(self) -> None:
-        """Arial's ascent of 905 units is 90.5, that of the font 90."""
+        """Arial's ascent of 905 units is 90.5, that of the font 90. Windows takes Arial for some other faces too."""
         case = Case().with_settings(align=0)
-        self.assertEqual(boxes(lay(self.layer, case.with_font(face="Arial")).glyphs), [(100, 240.5, 150, 290.5)])
+        for face in ("Arial", "HELVETICA", "Arial CE"):
+            self.assertEqual(boxes(lay(self.layer, case.with_font(face=face)).glyphs), [(100, 240.5, 150, 290.5)])
         self.assertEqual(boxes(lay(self.layer, case.with_font(face="Liberation Sans")).glyphs), [(100, 240, 150, 290)])
 
 

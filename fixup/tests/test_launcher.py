@@ -2,6 +2,7 @@
 
 import os
 import re
+import shutil
 import subprocess
 import unittest
 from pathlib import Path
@@ -85,6 +86,27 @@ class Launcher(CommandCase):
         link = self.folder / "link"
         os.symlink(LAUNCHER, link)
         self.assertEqual(self.ran("-V", program=link)[0], 0)
+
+    def test_checker_beside(self) -> None:
+        """The `metaplay` of the folder that it is called from goes before the one on the PATH."""
+        beside, link = self.folder / "metaplay", self.folder / "link"
+        os.symlink(LAUNCHER, link)
+        words = (self.file("a.wmf", PLAIN), self.out, "--check", "4", "4")
+        for status, line in ((0, b""), (1, b"metaplay-fixup: HeldObject at record 5 of the result\n")):
+            beside.write_text(f"#!/bin/sh\necho 'metaplay: HeldObject at record 5' >&2\nexit {status}\n")
+            beside.chmod(0o755)
+            self.assertEqual(self.ran(*words, program=link), (status, b"", line))
+        beside.chmod(0o644)
+        self.assertEqual(self.ran(*words, program=link, env={"PATH": "/usr/bin:/bin"})[0], 3)
+
+    def test_missing_module(self) -> None:
+        """It names the module, and what has it."""
+        root = self.folder / "fixup"
+        shutil.copytree(LAUNCHER.parent, root, ignore=shutil.ignore_patterns("tests", "__pycache__"))
+        (root / "freetype.py").write_text("import metaplay_without_freetype\n")
+        line = b"metaplay-fixup: the Python module metaplay_without_freetype is missing; Debian's packages "
+        said = (3, b"", line + b"python3-freetype and python3-pil have what is needed\n")
+        self.assertEqual(self.ran("-V", program=root / "metaplay-fixup"), said)
 
     def test_plain_locale(self) -> None:
         """Names that aren't ASCII, and one that isn't UTF-8, under the locale C."""

@@ -63,6 +63,14 @@ class Flattening(unittest.TestCase):
         for tolerance, count in ((12, 1), (11, 2), (3, 2), (2, 3)):
             self.assertEqual(chords_of_cubic(curve, tolerance), count, tolerance)
 
+    def test_chords_of_a_cubic_that_bends_at_one_end(self) -> None:
+        """The second differences are (0, 0) and (0, 16), or the other way round: the greater one counts."""
+        curve = (Point(0, 0), Point(0, 0), Point(0, 0), Point(0, 16))
+        back = (Point(0, 16), Point(0, 0), Point(0, 0), Point(0, 0))
+        for tolerance, count in ((12, 1), (11, 2), (3, 2), (2, 3)):
+            for piece in (curve, back):
+                self.assertEqual(chords_of_cubic(piece, tolerance), count, tolerance)
+
     def test_most_chords(self) -> None:
         self.assertEqual(chords_of_quadratic(Point(0, 0), Point(1 << 40, 0), Point(0, 0), 1), MOST_CHORDS)
 

@@ -70,8 +70,8 @@ class Emf(Overlooked):
     def test_faulty_colour(self) -> None:
         """A colour that no palette has: text can't be drawn in it, until another colour is set or comes back."""
         wrong, red = emf_record(24, u32(NO_COLOUR)), emf_record(24, u32(0xFF))
-        self.refuse(self.file(wrong, self.A), FaultName.PaletteColour, 4)
-        self.refuse(self.file(red, wrong, *emf_script("pixel 1 1"), self.A), FaultName.PaletteColour, 5)
+        self.refuse(self.file(wrong, self.A), FaultName.PaletteColour, 5)
+        self.refuse(self.file(red, wrong, *emf_script("pixel 1 1"), self.A), FaultName.PaletteColour, 7)
         save, restore = emf_record(33), emf_record(34, i32(-1))
         self.assertEqual(block_of(self.file(save, wrong, restore, self.A)), self.block(square(20, 30, (20, 30))))
         self.assertEqual(number(block_of(self.file(wrong, red, self.A))[9], 16), 0xFF)
@@ -80,9 +80,9 @@ class Emf(Overlooked):
         """The background's colour matters in the opaque mode and for a box alone."""
         wrong = emf_record(25, u32(NO_COLOUR))
         self.assertEqual(block_of(self.file(wrong, self.A)), self.block(square(20, 30, (20, 30))))
-        self.refuse(self.file(wrong, *emf_script("back_mode 2"), self.A), FaultName.PaletteColour, 4)
+        self.refuse(self.file(wrong, *emf_script("back_mode 2"), self.A), FaultName.PaletteColour, 6)
         box = text("a", 20, 30, 2, (20, 30, 30, 40))
-        self.refuse(self.file(wrong, box), FaultName.PaletteColour, 4)
+        self.refuse(self.file(wrong, box), FaultName.PaletteColour, 5)
 
     def test_faulty_modes(self) -> None:
         """Metric modes have no units without a device; only the mode of text makes the map known again."""
@@ -264,7 +264,7 @@ class Wmf(Overlooked):
     def test_faulty_colour(self) -> None:
         """As in EMF."""
         wrong = wmf_record(0x0209, u32(NO_COLOUR))
-        self.refuse(self.with_font(wrong, self.TEXT), FaultName.PaletteColour, 3)
+        self.refuse(self.with_font(wrong, self.TEXT), FaultName.PaletteColour, 4)
         self.assertEqual(block_of(self.with_font(wrong, wmf_record(0x0209, u32(0)), self.TEXT)), self.block(1))
 
     def test_metric_modes(self) -> None:

@@ -61,20 +61,38 @@ class Pens(unittest.TestCase):
             self.assertIs(look.way(units, ONE), way, look)
 
     def test_patterns(self) -> None:
-        """Lengths of a geometric pen are widths, caps included; of a cosmetic pen they are device pixels."""
+        """Lengths of a geometric pen are widths, caps included; of a cosmetic pen they are device pixels.
+
+        A thin geometric pen has the numbers of a wide one, in pixels. A pixel has 2 units here.
+        """
         flat = {1: (30, 10), 2: (10, 10), 3: (30, 10, 10, 10), 4: (30, 10, 10, 10, 10, 10)}
         others = {1: (20, 20), 2: (0, 20), 3: (20, 20, 0, 20), 4: (20, 20, 0, 20, 0, 20)}
         cosmetic = {1: (36, 12), 2: (6, 6), 3: (18, 12, 6, 12), 4: (18, 6, 6, 6, 6, 6), 8: (2, 2)}
-        kinds = ((0x10200, flat), (0x10100, others), (0x10000, others), (0, cosmetic))
-        for bits, table in kinds:
+        thin = {1: (6, 2), 2: (2, 2), 3: (6, 2, 2, 2), 4: (6, 2, 2, 2, 2, 2)}
+        kinds = (
+            (0x10200, 10, flat),
+            (0x10100, 10, others),
+            (0x10000, 10, others),
+            (0x10100, 1, thin),
+            (0x10200, 2, thin),
+            (0, 1, cosmetic),
+        )
+        for bits, width, table in kinds:
             for style, lengths in table.items():
-                found = pattern_of(self.look(bits | style), units, 2 * ONE)
+                found = pattern_of(self.look(bits | style, width), units, 2 * ONE)
                 self.assertEqual(found, tuple(length * ONE for length in lengths))
+        for style, lengths in cosmetic.items():
+            older = older_pen(style, 1, BLACK)
+            assert older is not None
+            self.assertEqual(pattern_of(older, units, 2 * ONE), tuple(length * ONE for length in lengths))
         self.assertEqual(pattern_of(self.look(0x10000), units, ONE), ())
 
     def test_user_patterns(self) -> None:
-        """A user style's lengths are taken as written; an odd number of them changes places each time around."""
-        for bits, factor in ((0x10007, 1), (7, 2)):
+        """A user style's lengths are page units, or of a cosmetic pen 3 pixels, here of 2 units.
+
+        An odd number of them changes places each time around.
+        """
+        for bits, factor in ((0x10007, 1), (7, 6)):
             for entries, lengths in (((5, 3), (5, 3)), ((5,), (5, 5)), ((1, 2, 3), (1, 2, 3, 1, 2, 3)), ((0, 0), ())):
                 found = pattern_of(self.look(bits, 10, entries), units, 2 * ONE)
                 self.assertEqual(found, tuple(factor * length * ONE for length in lengths))

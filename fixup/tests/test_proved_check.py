@@ -74,6 +74,16 @@ class Checked(CommandCase):
             self.assertEqual(self.check(Command()), Ran(0, ""))
         self.assertEqual((self.fonts / "input").read_bytes(), PLAIN)
 
+    def test_progress(self) -> None:
+        """What is said before the last line goes on to standard error; that of a failure is the reason."""
+        said = "echo 'metaplay: proving' >&2; echo 'metaplay: built' >&2"
+        ran = self.check(self.checker(f"{said}; echo 'metaplay: HeldObject at record 5' >&2; exit 1"))
+        lines = "metaplay-fixup: proving\nmetaplay-fixup: built\n"
+        self.assertEqual(ran, Ran(1, f"{lines}metaplay-fixup: HeldObject at record 5 of the result\n"))
+        ran = self.check(self.checker("echo 'metaplay: no rt on the PATH' >&2; exit 3"))
+        self.assertEqual(ran, Ran(3, "metaplay-fixup: cannot run metaplay (no rt on the PATH)\n"))
+        self.assertEqual(self.check(self.checker(said)).status, 0)
+
     @unittest.skipUnless(PROVED.exists(), "the proved program isn't built")
     def test_proved_program(self) -> None:
         command = Command(checker=str(self.PROVED))

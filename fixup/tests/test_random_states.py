@@ -19,7 +19,8 @@ FILES = 600
 NUMBERS = (0, 1, 2, 3, -1, -2, 5, 10, 20, 30, 50, 100, -100, 300)
 SINGLES = (0, 0.5, 1, 1, 2, -1, 10)
 COLOURS = (0, 0xFF, 0xFF00, 0x01000000, 0x01000001, 0x01000007, 0x02000012)
-PALETTE = u16(0x300, 2) + bytes([9, 8, 7, 0, 1, 2, 3, 0])
+PALETTE = u16(0x300, 2) + bytes([9, 8, 7, 0, 1, 2, 3, 1])
+ENTRIES = bytes([4, 5, 6, 1, 0, 0, 255, 0])
 WMF_FONT = wmf_record(0x02FB, i16(4, 0, 0, 0, 400) + bytes(8) + b"Squares\0")
 EXPECTED = {
     FaultName.BadParams,
@@ -83,6 +84,9 @@ EMF_MAKERS: list[Maker] = [
     lambda source: [modify(source.randrange(1, 6), *singles(source))],
     lambda source: [emf_record(38, u32(source.randrange(1, 6), 0) + i32(1, 0) + u32(source.choice(COLOURS)))],
     lambda source: [emf_record(49, u32(source.randrange(1, 4)) + PALETTE)],
+    lambda source: [emf_record(50, u32(source.randrange(1, 4), source.randrange(4), source.randrange(3)) + ENTRIES)],
+    lambda source: [emf_record(51, u32(source.randrange(1, 4), source.randrange(10)))],
+    emf_choice(52, 0),
     lambda source: font(source.choice((4, 10, -5)), source.randrange(2), source.randrange(1, 6)),
     lambda source: [emf_record(source.choice((88, 89)), NO_BOUNDS + u32(3) + i16(*some(source, 6)))],
     lambda source: [emf_record(source.choice((41, 56, 92)), bytes(32))],
@@ -101,6 +105,12 @@ WMF_MAKERS: list[Maker] = [
     *(lambda source, kind=kind: [wmf_record(kind, u32(source.choice(COLOURS)))] for kind in (0x0201, 0x0209)),
     lambda source: [wmf_record(0x02FA, u16(0) + i16(1, 0) + u32(source.choice(COLOURS)))],
     lambda source: [wmf_record(0x00F7, PALETTE)],
+    *(
+        lambda source, kind=kind: [wmf_record(kind, u16(source.randrange(4), source.randrange(3)) + ENTRIES)]
+        for kind in (0x0037, 0x0436)
+    ),
+    wmf_choice(0x0139, *range(10)),
+    wmf_choice(0x0035, 0),
     lambda source: [WMF_FONT],
     lambda source: [
         wmf_record(source.choice((0x0142, 0x01F9, 0x02FC, 0x06FF)), bytes(2 * source.randrange(20))),

@@ -1,10 +1,12 @@
 """Records of both formats are read and written by tables, and files are divided into them."""
 
 import unittest
+from unittest import mock
 
 from metaplay_fixup.affine import Point
 from metaplay_fixup.emf_kinds import EMF
 from metaplay_fixup.faults import Fault, FaultName
+from metaplay_fixup.output import Output, Source
 from metaplay_fixup.reader import Form, read_metafile
 from metaplay_fixup.wmf_kinds import WMF
 
@@ -119,6 +121,25 @@ class Files(unittest.TestCase):
             self.assertIs(metafile.form, form)
             self.assertEqual(metafile.head + b"".join(metafile.records) + metafile.tail, data + b"tail")
             self.assertEqual(metafile.tail, b"tail")
+
+    def test_most_records(self) -> None:
+        """A file may have as many records as the limit says, with its end."""
+        records = [emf_record(33)] * 3
+        with mock.patch("metaplay_fixup.reader.MOST_RECORDS", 5):
+            self.assertEqual(len(read_metafile(emf_file(records)).records), 5)
+            with self.assertRaises(Fault) as raised:
+                read_metafile(emf_file([*records, emf_record(33)]))
+        self.assertEqual((raised.exception.name, raised.exception.record), (FaultName.TooManyRecords, 5))
+
+    def test_longest_output(self) -> None:
+        """Records that are put into a place later count too."""
+        with mock.patch("metaplay_fixup.output.LONGEST_FILE", 20):
+            output = Output()
+            entry = output.add(1, Source.REPLACED, [bytes(8)])
+            output.put_in(entry, 0, [bytes(12)])
+            with self.assertRaises(Fault) as raised:
+                output.put_in(entry, 0, [b"x"])
+        self.assertEqual(raised.exception.name, FaultName.TooLong)
 
     def test_faults(self) -> None:
         """Broken files have the checker's faults."""

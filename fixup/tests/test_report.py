@@ -60,8 +60,29 @@ class Reports(CommandCase):
         digest = sha256(PLAIN)
         self.assertEqual(
             self.report(PLAIN),
-            [{"converted": digest, "file": self.name, "fonts": [], "original": digest, "version": VERSION}],
+            [
+                {
+                    "converted": digest,
+                    "emf_plus": False,
+                    "file": self.name,
+                    "fonts": [],
+                    "original": digest,
+                    "version": VERSION,
+                }
+            ],
         )
+
+    def test_emf_plus(self) -> None:
+        """The last line says whether the converted file still holds EMF+."""
+        data = emf_file([emf_record(70, u32(8) + b"EMF+abcd"), emf_record(42, i32(1, 1, 9, 9))])
+        curve, last = self.report(data)
+        self.assertEqual((curve["action"], last["emf_plus"]), ("curve", True))
+        dropped, curve, last = self.report(data, "--drop-emf-plus")
+        self.assertEqual((dropped["action"], curve["action"], last["emf_plus"]), ("EMF+", "curve", False))
+        self.assertEqual(self.report(emf_file([emf_record(70, u32(8) + b"EMF-abcd")]))[0]["emf_plus"], False)
+        # A comment of a WMF that would be one of EMF+ in an EMF: of 70 words, with the signature at byte 12.
+        wmf = placeable_file([wmf_record(0x0626, i16(15, 130) + b"abEMF+".ljust(130, b"\0"))])
+        self.assertEqual(self.report(wmf)[0]["emf_plus"], False)
 
     def test_text(self) -> None:
         """The em of 20 makes the letter a square of half of that: from (20, 30 + 18 - 10), since the ascent is 18."""
@@ -94,6 +115,7 @@ class Reports(CommandCase):
         result = sha256(self.out.read_bytes())
         expected = {
             "converted": result,
+            "emf_plus": False,
             "file": self.name,
             "fonts": [used],
             "original": sha256(data),
@@ -145,6 +167,17 @@ class Reports(CommandCase):
         self.assertEqual((first["font"], first["fallbacks"], second["choice"]), ("Squares", ["Others"], "map"))
         found = [(entry["family"], entry["choices"], entry["permission"]) for entry in last["fonts"]]
         self.assertEqual(found, [("Squares", ["family"], 0), ("Others", ["fallback", "map"], 4)])
+
+    def test_choices_of_each_style(self) -> None:
+        """A family's bold font has its own ways: a map chose it, and the face's name the other."""
+        write_font(self.fonts, "bold.ttf", MadeFont("Squares", "Bold", weight=700, selection=0x20))
+        create = emf_record(
+            82, u32(2) + i32(-20, 0, 0, 0, 700) + bytes(8) + "Nowhere".encode("utf-16-le").ljust(64, b"\0")
+        )
+        records = [*emf_script("back_mode 1"), *font(-20), text("A", 20, 30), create, emf_record(37, u32(2))]
+        *_, last = self.report(emf_file([*records, text("A", 60, 30)]), "--map=Nowhere=Squares")
+        found = [(entry["style"], entry["choices"]) for entry in last["fonts"]]
+        self.assertEqual(found, [("Regular", ["family"]), ("Bold", ["map"])])
 
     def test_characters(self) -> None:
         """The report is ASCII, whatever the text has."""

@@ -2,11 +2,12 @@
 
 import random
 import unittest
+from collections.abc import Sequence
 from math import hypot
 
 from metaplay_fixup.affine import Point
 from metaplay_fixup.budgets import Budget
-from metaplay_fixup.dashes import dashes, gaps
+from metaplay_fixup.dashes import along_line, dashes, gaps
 from metaplay_fixup.fixed import ONE
 from metaplay_fixup.pens import Cap, Join
 from metaplay_fixup.shapes import Figure
@@ -51,7 +52,7 @@ class Laws(unittest.TestCase):
             pen = shape(source.randrange(1, 9), source.choice([*Cap]), source.choice([*Join]), pattern)
             figure, budget = Figure(line, source.random() < 0.5), Budget(TOLERANCE)
             self.assertTrue(all(twice_area(contour) > 0 for contour in stroke_contours([figure], pen, budget)))
-            parts = [*dashes(figure, pen.pattern, budget), *gaps(figure, pen.pattern, budget)]
+            parts = [*dashes(figure, pen.pattern, budget, along_line), *gaps(figure, pen.pattern, budget, along_line)]
             whole_line = [*line, line[0]] if figure.is_closed else line
             total = sum(length_of(part.points) for part in parts)
             self.assertAlmostEqual(total / ONE, length_of(whole_line) / ONE, places=2)
@@ -60,8 +61,8 @@ class Laws(unittest.TestCase):
         """Contours that rounding turns over are turned back, and those without an area are left out."""
         contours = [points(0, 0, 4, 0, 0, 4), points(0, 0, 0, 4, 4, 0), points(0, 0, 1, 0, 0, 1)]
 
-        def halves(point: Point) -> Point:
-            return Point(point.x // (2 * ONE), point.y // (2 * ONE))
+        def halves(contour: Sequence[Point]) -> list[Point]:
+            return [Point(point.x // (2 * ONE), point.y // (2 * ONE)) for point in contour]
 
         forward, back = points(0, 0, 4, 0, 0, 4), points(4, 0, 0, 4, 0, 0)
         self.assertEqual(aligned(contours, halves, False), [forward, back])

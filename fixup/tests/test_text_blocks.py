@@ -5,9 +5,11 @@ import unittest
 
 from metaplay_fixup.convert import Converted, convert
 from metaplay_fixup.faults import Fault, FaultName
+from metaplay_fixup.marks import stamps
 from metaplay_fixup.options import Options
-from metaplay_fixup.output import Action
-from metaplay_fixup.text import Box
+from metaplay_fixup.output import Action, Replacement
+from metaplay_fixup.records import Layout
+from metaplay_fixup.text import Box, Choice, Note
 
 from .emf_records import PARTS, map_to, modify, world
 from .oracle import EMF_END, NO_BOUNDS, emf_file, emf_record, emf_script, i16, i32, refusal_of, u16, u32
@@ -55,6 +57,13 @@ class Emf(unittest.TestCase):
         (place,) = converted([text("a", 20, 30), text("b", 60, 30)])
         self.assertEqual(len(place.records), 28)
 
+    def test_reach_of_a_block(self) -> None:
+        """20,000 parts of 1,024 to a unit are 19.5 units, on each side of the block's origin; a square has 10."""
+        for x, y, count in ((31, 50, 15), (30, 50, 28), (59, 50, 15), (60, 50, 28)):
+            for point in ((x, y), (y, x)):
+                (place,) = converted([text("a", 50, 50), text("b", *point)])
+                self.assertEqual(len(place.records), count, point)
+
     def test_background(self) -> None:
         """In opaque mode the background is filled first, and its brush goes when the next one comes."""
         records = [*emf_script("back_mode 2; back_colour 0x00ff00"), text("a", 20, 30)]
@@ -81,6 +90,12 @@ class Emf(unittest.TestCase):
         self.assertEqual(place.records[6], emf_record(30, i32(5 * PARTS, 0, 20 * PARTS, 10 * PARTS)))
         (place,) = converted([text("a", 20, 30, 4, (20, 30, 30, 40))])
         self.assertEqual(len(place.records), 14)
+
+    def test_text_after_a_clipped_one(self) -> None:
+        """It isn't clipped, so it has a block of its own."""
+        (place,) = converted([text("a", 20, 30, 4, (22, 30, 40, 40)), text("b", 26, 30)])
+        own = [emf_record(33), *map_to(26, 30), *SETTINGS, *brush(0), square(26, 30, (26, 30)), *END]
+        self.assertEqual(place.records[-14:], own)
 
     def test_clipped_line_and_background(self) -> None:
         """The letter is in its box, but its underline isn't, or the background of the blank behind it."""
@@ -160,6 +175,13 @@ class Emf(unittest.TestCase):
         self.assertEqual((place.first, place.count), (4, 4))
         self.assertEqual(place.records[-2], square(20, 30, (20, 30)))
 
+    def test_underlined_path(self) -> None:
+        """An underline is an outline too: two polygons of four points."""
+        begin, end, fill = emf_script("begin_path; end_path; fill_path")
+        (place,) = converted([*font(underline=1, index=2), begin, text("a", 20, 30), end, fill])
+        polygons = place.records[-2]
+        self.assertEqual((number(polygons, 0), number(polygons, 24), number(polygons, 28)), (91, 2, 8))
+
     def test_stroked_path(self) -> None:
         """The squares of text in a path are closed figures, so their outlines end where they begin."""
         begin, end, stroke = emf_script("begin_path; end_path; stroke_path")
@@ -172,6 +194,14 @@ class Emf(unittest.TestCase):
         record = emf_record(108, i32(20, 30) + u32(1, 0x300, 1, 0, 0) + b"a\0\0\0")
         (place,) = converted([record])
         self.assertEqual(place.records[11], square(20, 30, (20, 30)))
+
+    def test_small_text_without_a_box(self) -> None:
+        """It can't be opaque or clip, so the text has its own background."""
+        for options in (0x300, 0x302, 0x304, 0x306):
+            record = emf_record(108, i32(20, 30) + u32(1, options, 1, 0, 0) + b"a\0\0\0")
+            (place,) = converted([*emf_script("back_mode 2"), record])
+            found = [kept for kept in place.records if number(kept, 0) in (30, 86)]
+            self.assertEqual(found, [square(20, 30, (20, 30))] * 2, options)
 
     def test_what_is_asked(self) -> None:
         """The layer gets the string, the distances, the font and the settings as the records have them."""
@@ -202,6 +232,14 @@ class Emf(unittest.TestCase):
         self.assertEqual(original[20:].rstrip(b"\0").decode(), expected)
         self.assertEqual(fonts[20:].rstrip(b"\0").decode(), '{"family":"Squares","sha256":"%s"}' % ("ab" * 32))
 
+    def test_stamps_of_several_fonts(self) -> None:
+        """They stand in the order of their families, whatever the order of the texts."""
+        families = ("B", "C", "A", "B")
+        notes = [Note("", family, Choice.FAMILY, "a", sha256=family * 64) for family in families]
+        found = stamps(Layout.EMF, b"", [Replacement(9, "", Action.OUTLINES, None, note) for note in notes])
+        wanted = ['{"family":"%s","sha256":"%s"}' % (family, family * 64) for family in "ABC"]
+        self.assertEqual([stamp[20:].rstrip(b"\0").decode() for stamp in found[1:]], wanted)
+
     def test_text_only(self) -> None:
         """Only text is replaced; the world stays, and is set aside in the block; the position is set at once."""
         records = [world(2, 0, 0, 2, 0, 0), UPDATE_POSITION, emf_record(42, i32(1, 1, 9, 9)), text("a", 20, 30)]
@@ -211,6 +249,18 @@ class Emf(unittest.TestCase):
         self.assertEqual((place.first, place.count), (7, 1))
         self.assertEqual(place.records[1], modify(1, 1, 0, 0, 1, 0, 0))
         self.assertEqual(place.records[-1], emf_record(27, i32(10, 0)))
+
+    def test_text_only_after_a_path(self) -> None:
+        """Curves and lines of a path stay, and move the position where text begins."""
+        script = emf_script("begin_path; move 80 30; end_path; stroke_path")
+        arc = emf_record(55, i32(0, 0, 80, 60, 80, 30, 40, 0))
+        curve = emf_record(88, i32(0, 0, -1, -1, 3) + i16(1, 1, 2, 2, 40, 0))
+        line = emf_record(89, i32(0, 0, -1, -1, 1) + i16(40, 0))
+        for moves in ([arc], [curve], [line], [arc, *emf_script("line 40 0")]):
+            records = [*script[:2], *moves, *script[2:], UPDATE_POSITION, text("a", 9, 9)]
+            data = emf_file([*TRANSPARENT, *font(), *records])
+            (place,) = places_of(data, convert(data, Options(text_only=True), Squares()).data)
+            self.assertEqual((place.count, place.records[4]), (1, emf_record(12, i32(40, 0))))
 
     def test_cut_strings(self) -> None:
         """A string or distances beyond the record."""

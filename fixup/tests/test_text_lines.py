@@ -4,12 +4,15 @@ from __future__ import annotations
 
 from math import isqrt
 
+from fontTools.ttLib import TTFont  # type: ignore[import]
+
 from metaplay_fixup.affine import Point
 from metaplay_fixup.fixed import ONE
 from metaplay_fixup.text import ADVANCED, BASELINE, BOTTOM, CENTRE, RIGHT, UPDATE_POSITION
 
+from .made_fonts import SPACE, A, MadeFont
 from .made_folder import MadeFolder
-from .texts import Case, box, boxes, lay, page_of, units
+from .texts import Case, box, boxes, lay, layer_of, page_of, units
 
 TOP = 0
 
@@ -45,6 +48,17 @@ class Distances(MadeFolder):
         """A space has an advance of 25, and half of the extra of 31."""
         case = Case().of("A A A").with_settings(break_extra=31, break_count=2)
         self.assertEqual(self.lefts(case), [100, 200.5, 301])
+
+    def test_extra_of_spaces_in_a_font_of_signs(self) -> None:
+        """Its space is F020, which byte 20 is in the Symbol charset."""
+        self.write(MadeFont("Signs", characters={0xF041: A, 0xF020: SPACE}, is_symbol=True))
+        case = Case().with_font(face="Signs", charset=2).with_record(codes=b"A A")
+        lefts = [left for left, _, _, _ in boxes(lay(layer_of(self.folder), self.spaced(case)).glyphs)]
+        self.assertEqual(lefts, [100, 100 + 60 + 25 + 31])
+
+    def spaced(self, case: Case) -> Case:
+        """The case with an extra of 31 for one space."""
+        return case.with_settings(break_extra=31, break_count=1)
 
     def test_both_extras(self) -> None:
         case = Case().of("A A").with_settings(character_extra=5, break_extra=30, break_count=2)
@@ -91,6 +105,11 @@ class Alignment(MadeFolder):
 
     def test_bottom_and_centre(self) -> None:
         self.assertEqual(self.first_box(BOTTOM | CENTRE), (40, 120, 90, 170))
+
+    def test_centre_of_a_turned_line(self) -> None:
+        """It runs upwards over 120 units, so it begins 60 below; the letter's top is to its left."""
+        case = Case().of("AA").with_font(escapement=900).with_settings(align=BASELINE | CENTRE)
+        self.assertEqual(box(lay(self.layer, case).glyphs[0]), (50, 210, 100, 260))
 
     def test_right_by_distances(self) -> None:
         case = Case().of("AA").with_record(distances_x=(70, 80)).with_settings(align=BASELINE | RIGHT)
@@ -212,6 +231,40 @@ class Bands(MadeFolder):
     def test_strike_out(self) -> None:
         laid = lay(self.layer, Case().of("AA").with_font(strike_out=True))
         self.assertEqual(boxes(laid.lines), [(100, 167, 220, 173)])
+
+    def test_table(self) -> None:
+        """By the height of the em: the underline's middle is a tenth of it below the baseline at 200, and it is a
+        twentieth thick; the strike-out's is three tenths above, and it is three fiftieths thick; both at least 1 unit.
+        """
+        rows = {
+            1000: ((275, 325), (-130, -70)),
+            100: ((207.5, 212.5), (167, 173)),
+            40: ((203, 205), (186.8, 189.2)),
+            20: ((201.5, 202.5), (193.4, 194.6)),
+            10: ((200.5, 201.5), (196.5, 197.5)),
+            5: ((200, 201), (198, 199)),
+            1: ((199.6, 200.6), (199.2, 200.2)),
+        }
+        for em, expected in rows.items():
+            laid = lay(self.layer, Case().with_font(height=-em, underline=True, strike_out=True))
+            for (left, top, right, bottom), sides in zip(boxes(laid.lines), expected, strict=True):
+                for found, wanted in zip((left, top, right, bottom), (100, sides[0], 100 + 0.6 * em, sides[1])):
+                    self.assertAlmostEqual(float(found), wanted, 5, em)
+
+    def test_thickness_below_0(self) -> None:
+        """It counts like one above."""
+        path = self.write(MadeFont("Below"))
+        font = TTFont(path)
+        font["post"].underlineThickness, font["OS/2"].yStrikeoutSize = -50, -60
+        font.save(path)
+        laid = lay(layer_of(self.folder), Case().with_font(face="Below", underline=True, strike_out=True))
+        self.assertEqual(boxes(laid.lines), [(100, 207.5, 160, 212.5), (100, 167, 160, 173)])
+
+    def test_stretched(self) -> None:
+        """On a page that is twice as wide and half as high the thickness goes by the height: 2.5 units."""
+        page = page_of(Point(100, 100), Point(200, 50))
+        laid = lay(self.layer, Case().on(page).with_font(underline=True))
+        self.assertEqual(boxes(laid.lines), [(200, 103.75, 230, 106.25)])
 
     def test_both_and_turned(self) -> None:
         laid = lay(self.layer, Case().with_font(underline=True, strike_out=True, escapement=900))

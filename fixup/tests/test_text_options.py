@@ -149,6 +149,12 @@ class Blanks(MadeFolder):
             lay(self.layer, Case().of("\u2003A"))
         self.assertEqual(str(caught.exception), "MissingGlyph (U+2003 in Squares)")
 
+    def test_characters_without_a_width(self) -> None:
+        """Controls and format characters, the first and the last of each range, take no place."""
+        for code in (1, 0x1F, 0x7F, 0x200B, 0x200E, 0x2028, 0x202D, 0x2060, 0x206F, 0xFEFF):
+            found = boxes(lay(self.layer, Case().of(f"A{chr(code)}A")).glyphs)
+            self.assertEqual(found, [(100, 150, 150, 200), (160, 150, 210, 200)], hex(code))
+
     def test_no_break_space_is_a_space(self) -> None:
         self.assertEqual(boxes(lay(self.layer, Case().of("\u00a0A")).glyphs), [(125, 150, 175, 200)])
 
@@ -198,6 +204,8 @@ class Rejections(MadeFolder):
             0x11FF,
             0x17B6,
             0x202E,
+            0x3099,
+            0x309A,
             0xFB1D,
             0xFEFC,
             0x10840,

@@ -2,12 +2,15 @@
 
 from __future__ import annotations
 
+from fontTools.ttLib import TTFont  # type: ignore[import]
+
 from metaplay_fixup.affine import Affine, Point
 from metaplay_fixup.faults import Fault, FaultName
 from metaplay_fixup.text import ADVANCED
 
 from .made_folder import MadeFolder
-from .texts import Case, boxes, lay, page_of
+from .made_fonts import MadeFont
+from .texts import Case, boxes, lay, layer_of, page_of
 
 
 class Sizes(MadeFolder):
@@ -41,6 +44,16 @@ class Sizes(MadeFolder):
     def test_descending_glyph(self) -> None:
         """B begins at (100, -200) and has a side of 300 units."""
         self.assert_boxes(Case().of("B"), (110, 190, 140, 220))
+
+    def test_font_without_a_height(self) -> None:
+        """A cell of no height can't be as high as a record asks."""
+        path = self.write(MadeFont("Flat"))
+        font = TTFont(path)
+        font["OS/2"].usWinAscent = font["OS/2"].usWinDescent = 0
+        font.save(path)
+        with self.assertRaises(Fault) as caught:
+            lay(layer_of(self.folder), Case().with_font(face="Flat", height=100))
+        self.assertEqual(str(caught.exception), "BadFont (Flat.ttf: its em or its height is wrong)")
 
     def test_font_too_large(self) -> None:
         with self.assertRaises(Fault) as caught:

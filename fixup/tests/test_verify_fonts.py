@@ -34,6 +34,29 @@ class Fonts(MadeFolder):
         self.assertGreater(places, RANDOM_FILES)
 
 
+class Wide(MadeFolder):
+    """Texts that are much wider than high."""
+
+    def test_wide_fonts(self) -> None:
+        """The average character of 500 units is 200 units wide, so the A is too; the em is 4 units high."""
+        sizes = i32(-4, 200, 0, 0, 400) + bytes(8) + "Squares".encode("utf-16-le").ljust(64, b"\0")
+        create = [*emf_script("back_mode 1"), emf_record(82, u32(1) + sizes), emf_record(37, u32(1))]
+        string = i32(0, 0, -1, -1) + u32(1, 0, 0) + i32(20, 30) + u32(1, 76, 0) + i32(0, 0, -1, -1) + u32(0)
+        original = emf_file([*create, emf_record(84, string + b"A\0\0\0")])
+        fixed = convert(original, Options(text_only=True), self.layer).data
+        self.assertEqual(verify(original, fixed, True).places, 1)
+
+    def test_wide_spaces(self) -> None:
+        """A space is 300 units wider than in its font."""
+        sizes = i32(-4, 0, 0, 0, 400) + bytes(8) + "Squares".encode("utf-16-le").ljust(64, b"\0")
+        create = [*emf_script("back_mode 1"), emf_record(82, u32(1) + sizes), emf_record(37, u32(1))]
+        string = i32(0, 0, -1, -1) + u32(1, 0, 0) + i32(20, 30) + u32(3, 76, 0) + i32(0, 0, -1, -1) + u32(0)
+        codes = "A A".encode("utf-16-le") + bytes(2)
+        original = emf_file([*create, emf_record(120, i32(300, 1)), emf_record(84, string + codes)])
+        fixed = convert(original, Options(text_only=True), self.layer).data
+        self.assertEqual(verify(original, fixed, True).places, 1)
+
+
 def random_emf(source: random.Random) -> bytes:
     """An EMF with texts far apart under random fonts, maps and worlds."""
     records = [*emf_script("map_mode 8"), emf_record(9, i32(*source.choices((100, -300, 40), k=2)))]

@@ -11,7 +11,7 @@ from metaplay_verify.reading import Reader
 
 from .oracle import EMF_END, emf_file, emf_record, emf_script, i16, i32, placeable_file, u16, u32, wmf_record
 from .parts import places_of, records_of
-from .planted import converted, emf_comment, joined, mark
+from .planted import converted, emf_comment, joined, kind_of, mark
 from .emf_records import modify, world
 from .text_records import UPDATE_POSITION, font, text
 
@@ -145,6 +145,71 @@ class Made(unittest.TestCase):
         white = emf_script("back_colour 0xffffff")
         self.assertTrue(verdict_of(white, [one], block_of(*white, one)).holds)
         self.refuse(OUTSIDE, verdict_of(white, [one], block_of(*white, less)))
+
+    def test_shape_of_a_background(self) -> None:
+        """The background behind a text is a quadrangle, but its glyphs are any polygons."""
+        opaque = emf_script("back_mode 2; back_colour 0x00ff00")
+        block, box = block_of(*opaque, self.A), i32(20, 30, 24, 34)
+        five = emf_record(86, box + u32(5) + i16(0, 0, 4096, 0, 4096, 4096, 2048, 2048, 0, 4096))
+        (back, glyph) = (at for at, record in enumerate(block) if kind_of(record, True) == 86)
+        self.assertTrue(verdict_of(opaque, [self.A], [*block[:glyph], five, *block[glyph + 1 :]]).holds)
+        self.refuse(
+            "draws more than its text has", verdict_of(opaque, [self.A], [*block[:back], five, *block[back + 1 :]])
+        )
+
+    def test_background_of_a_transparent_text(self) -> None:
+        """It has none."""
+        green = emf_script("back_colour 0x00ff00")
+        opaque = block_of(*green, *emf_script("back_mode 2"), self.A)
+        self.refuse("draws more than its text has", verdict_of(green, [self.A], opaque))
+
+    def test_empty_clip(self) -> None:
+        """Nothing shows of a text that a box without an area clips."""
+        for box in ((20, 30, 20, 40), (20, 30, 30, 30), (0, 0, 0, 0)):
+            for options in (4, 6):
+                clipped = text("a", 20, 30, options, box)
+                self.refuse("draws more than its text has", verdict_of([], [clipped], block_of(self.A)))
+                self.assertTrue(verdict_of([], [clipped, self.B], block_of(self.B)).holds)
+
+    def test_points_of_a_polygon(self) -> None:
+        """There are two at least, in each list."""
+        *head, _, restore, delete = block_of(self.A)
+        box = i32(20, 30, 24, 34)
+        one = emf_record(86, box + u32(1) + i16(0, 0))
+        lists = emf_record(91, box + u32(2, 5, 1, 4) + i16(0, 0, 0, 0, 4096, 0, 4096, 4096, 0, 4096))
+        for polygon in (one, lists):
+            self.refuse("counts are wrong", verdict_of([], [self.A], [*head, polygon, restore, delete]))
+
+    def test_longer_records(self) -> None:
+        """No record of a block has more than its numbers."""
+        block = block_of(self.A)
+        for at in (3, 4, 9):
+            longer = emf_record(kind_of(block[at], True), block[at][8:] + bytes(4))
+            verdict = verdict_of([], [self.A], [*block[:at], longer, *block[at + 1 :]])
+            self.refuse("a block has another record", verdict)
+
+    def test_index_beyond(self) -> None:
+        """A block's brush has the first index that the original's header doesn't count."""
+        block = [record.replace(emf_record(39, u32(4))[8:], u32(9)) for record in block_of(self.A)]
+        self.refuse("count of handles is wrong", verdict_of([], [self.A], block))
+
+    def test_many_moving_texts(self) -> None:
+        """Each begins where the one before ended: the last one 11 times 40 units from the first."""
+        original = emf_file([*TRANSPARENT, *font(40), UPDATE_POSITION, *[text("a", 0, 0)] * 12])
+        self.assertEqual(verify(original, converted(original), True).places, 1)
+
+    def test_small_text_without_a_box(self) -> None:
+        """Its options say nothing of a box, so it has a background."""
+        for options in (0x300, 0x302, 0x304, 0x306):
+            small = emf_record(108, i32(20, 30) + u32(1, options, 1, 0, 0) + b"a\0\0\0")
+            opaque = emf_script("back_mode 2")
+            self.assertTrue(verdict_of(opaque, [small], block_of(*opaque, small)).holds, options)
+
+    def test_distances_to_the_left(self) -> None:
+        """A text reaches as far to the left as its distances say."""
+        numbers = u32(1, 0, 0) + i32(90, 30) + u32(2, 76, 0) + i32(0, 0, -1, -1) + u32(80)
+        left = emf_record(84, i32(0, 0, -1, -1) + numbers + u16(0x61, 0x62) + i32(-70, 0))
+        self.assertTrue(verdict_of([], [left], block_of(left)).holds)
 
     def test_order(self) -> None:
         """Texts that share a block stand in it in their order."""

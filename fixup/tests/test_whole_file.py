@@ -54,6 +54,13 @@ class WholeFiles(unittest.TestCase):
             self.assertEqual(stat.S_IMODE(self.path.stat().st_mode), mode)
         self.assertEqual((self.path.read_bytes(), (self.folder / "second").read_bytes()), (NEW, OLD))
 
+    def test_old_program(self) -> None:
+        """A file that ran with its owner's rights doesn't any more, since its contents are others."""
+        self.path.write_bytes(OLD)
+        self.path.chmod(0o6755)
+        self.write(self.path)
+        self.assertEqual(stat.S_IMODE(self.path.stat().st_mode), 0o755)
+
     def test_links(self) -> None:
         """A link stays one, and the file that it leads to is written, even if it isn't there yet."""
         (self.folder / "below").mkdir()

@@ -97,6 +97,22 @@ class WmfStrokes(unittest.TestCase):
         inner = [*wmf_thin_pen(2, 0x00FF00), gap, *wmf_thin_pen(3), *dashes]
         self.assertEqual(opaque, wmf_block(here, *inner, objects=3))
 
+    def test_dashed_rectangle(self) -> None:
+        """The outline of 40 by 20 goes from the upper right corner to the left: 18 on, 6 off, five times around it."""
+        box = wmf_script("rectangle 50 30 10 10")
+        records = self.only([*wmf_script("back_mode 1"), *wmf_pen(1, 1), *box])
+        lines = [
+            (50, 10, 32, 10),
+            (26, 10, 10, 10, 10, 12),
+            (10, 18, 10, 30, 16, 30),
+            (22, 30, 40, 30),
+            (46, 30, 50, 30, 50, 16),
+        ]
+        shifted = [[256 * (place - (50, 10)[at % 2]) for at, place in enumerate(line)] for line in lines]
+        dashes = [wmf_record(0x0325, i16(len(numbers) // 2, *numbers)) for numbers in shifted]
+        here = window((-12800, -2560), (25600, 25600))
+        self.assertEqual(records, wmf_block(here, *wmf_thin_pen(2), *dashes, before=tuple(box)))
+
     def test_pixels(self) -> None:
         """A placeable file of 960 units an inch has pixels of 10 units, and a plain one has 1,024 on a side.
 

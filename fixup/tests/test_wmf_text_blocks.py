@@ -3,6 +3,7 @@
 import unittest
 
 from metaplay_fixup.convert import Converted, convert
+from metaplay_fixup.faults import Fault, FaultName
 from metaplay_fixup.options import Options
 from metaplay_fixup.text import Box
 
@@ -51,6 +52,30 @@ class Wmf(unittest.TestCase):
         (place,) = self.converted([wmf_record(0x0521, i16(1) + b"a\0" + i16(30, 20))])
         expected = [*self.block(20, 30, *self.brush(0, 2), self.SQUARE), wmf_record(0x01F0, u16(2))]
         self.assertEqual(place.records, expected)
+
+    def test_faces(self) -> None:
+        """A face's name is in the code page of its charset ([MS-WMF] 2.1.1.5)."""
+        rows = [
+            (0, "e9", "\u00e9"),
+            (128, "96be92a9", "\u660e\u671d"),
+            (129, "b1bcb8b2", "\uad74\ub9bc"),
+            (134, "cbcecce5", "\u5b8b\u4f53"),
+            (136, "b2d3a9fac5e9", "\u7d30\u660e\u9ad4"),
+        ]
+        for charset, name, face in rows:
+            squares = Squares()
+            flags = bytes([0, 0, 0, charset, 0, 0, 0, 0])
+            create = wmf_record(0x02FB, i16(10, 0, 0, 0, 400) + flags + bytes.fromhex(name).ljust(8, b"\0"))
+            string = wmf_record(0x0521, i16(1) + b"a\0" + i16(30, 20))
+            convert(placeable_file([create, *wmf_script("select 0"), string]), Options(), squares)
+            self.assertEqual([asked.face for _, asked, _ in squares.asked], [face])
+
+    def test_negative_counts(self) -> None:
+        """No string has fewer than no characters."""
+        for record in (wmf_record(0x0521, i16(-1) + bytes(20)), wmf_record(0x0A32, i16(1, 1, -1, 0) + bytes(20))):
+            with self.assertRaises(Fault) as raised:
+                convert(placeable_file([*self.SETUP, record]), Options(), Squares())
+            self.assertEqual((raised.exception.name, raised.exception.record), (FaultName.BadParams, 3))
 
     def test_two_colours(self) -> None:
         """The second brush takes another index, and the first goes when it is no longer selected."""

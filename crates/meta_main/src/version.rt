@@ -2,4 +2,4 @@
 
 /// The line that `--version` writes: the version, and the checksum of all sources but this one.
 pub(crate) const VERSION: &str =
-    "metaplay 1.1.0 (sources bca96b9c3e86fad6f84dd3488c799ecebdf456da05e6d08686266e090db3c67a)\n";
+    "metaplay 1.1.0 (sources a5ac7a934afcb3e8187c1ca9efadfccb99b0d599b99867655cf50d4218ed7ae8)\n";

@@ -15,6 +15,7 @@ ghost use Rattle.painting.specs.declared.outline_rows.Part.TheVariants.{Lines};
 
 use crate::line_steps::step_line;
 use crate::lone_line::lone_line;
+use crate::mask_costs::{shares_of, stroke_mask_pays, visited_mask_pays};
 use crate::mask_stroking::stroke_by_mask;
 use crate::outline_rows::{Part, paint_rows};
 use crate::rectangles::{LineList, box_lines, has_inside};
@@ -24,7 +25,6 @@ use crate::row_painter::{RowOps, RowPainter};
 use crate::scratch::DrawingScratch;
 use crate::stroke::Stroke;
 use crate::visited_mask::VisitedMask;
-use crate::visited_mask_costs::{shares_of, stroke_mask_pays, visited_mask_pays};
 use crate::visiting::{begin_visited_mask, visit_lines};
 use crate::wide_stroking::{stroke_kept_wide, stroke_wide_lines};
 use crate::widening::widened;

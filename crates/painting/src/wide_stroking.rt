@@ -59,6 +59,7 @@ pub(crate) fn stroke_wide_lines<O: Outline + Copy>(
         mix_wide_line(canvas, line, stroke.nib, drawn, stroke.mix);
         return;
     }
+    // (as many lines as points, or a few less)
     let count = lines.points as usize;
     if let Some(mask) = &mut scratch.mask {
         if !are_few(count, drawn) && is_one_part(mask, drawn) {

@@ -1,6 +1,8 @@
 -- The columns that a nib covers along a line, of all of it and of some of its rows.
 use Rattle.std.proofs.Common.{◌≡◌, ℕ, ◌+◌, ◌<◌, true, ℤ, pos, ◌+ℤ◌, ◌-ℤ◌, ◌≤ℤ◌, ◌<ℤ◌, arith, ◌∙◌}
-use Rattle.std.proofs.lemmas.Int.{ints, by_lt_z}
+use Rattle.std.specs.Int.{int_max, int_min}
+use Rattle.std.proofs.lemmas.Int.{ints}
+use Rattle.mapping.specs.Boxes.{HasPoint}
 use Rattle.mapping.specs.Nibs.{IsNib, reach_after, reach_before}
 use Rattle.span_fill.specs.MaskCovers.{EndsBefore, EndsFrom, is_in_region, is_in_rows, tall_nib, tall_row}
 use Rattle.span_fill.specs.MaskFrames.{row_at}
@@ -15,50 +17,55 @@ use Rattle.span_fill.specs.declared.wide_line.WideRow.{WideRow}
 use Rattle.span_fill.proofs.CoverLemmas.{any_passes, covered, covers, reaches}
 use Rattle.span_fill.proofs.LineBoxLemmas.{on_line_has}
 use Rattle.span_fill.proofs.MarkLemmas.{columns_reported, reported}
+use Rattle.span_fill.proofs.WideEdgeWindows.{greater_is, lesser_is}
 
--- a pixel of a line lies between the columns of its ends
+-- two numbers lie between the lesser of them and the greater
+record AreBetween (one other least most : ℤ) : Type 0 where
+  pub one_least : least ≤ℤ one
+  pub other_least : least ≤ℤ other
+  pub one_most : one ≤ℤ most
+  pub other_most : other ≤ℤ most
+
+by_size : (one other : ℤ) → AreBetween one other (int_min one other) (int_max one other)
+by_size one other =
+    let lesser = lesser_is one other in
+    let greater = greater_is one other in
+    record { one_least = lesser.first; other_least = lesser.second; one_most = greater.first; other_most = greater.second }
+
+-- a pixel of a line lies in each box that both its ends lie in
+in_box_of_ends :
+    (line : Line) (u v l t r b : ℤ) → AreBetween line.from.x line.to.x l r → AreBetween line.from.y line.to.y t b → on_line line u v ≡ true → HasPoint (record { l = l; t = t; r = r; b = b }) (record { x = u; y = v })
+in_box_of_ends line u v l t r b across down on =
+    on_line_has (record { l = l; t = t; r = r; b = b }) line u v
+    (record {
+      from = record { left = across.one_least; top = down.one_least; right = across.one_most; bottom = down.one_most };
+      to = record { left = across.other_least; top = down.other_least; right = across.other_most; bottom = down.other_most };
+    }) on
+
+-- between the columns of its ends
 pub between_ends : (line : Line) (u v least most : ℤ) → least ≤ℤ line.from.x → least ≤ℤ line.to.x → line.from.x ≤ℤ most → line.to.x ≤ℤ most → on_line line u v ≡ true → (least ≤ℤ u) × (u ≤ℤ most)
 between_ends line u v least most a b c d on =
-    by_lt_z line.from.y line.to.y
-    (λ (down : line.from.y <ℤ line.to.y).
-    let has = on_line_has (record { l = least; t = line.from.y; r = most; b = line.to.y }) line u v
-    (record { from = record { left = a; top = omega (arith, ints); right = c; bottom = omega (arith, ints, down) }; to = record { left = b; top = omega (arith, ints, down); right = d; bottom = omega (arith, ints) } }) on in
-    (has.left, has.right))
-    (λ (up : line.to.y ≤ℤ line.from.y).
-    let has = on_line_has (record { l = least; t = line.to.y; r = most; b = line.from.y }) line u v
-    (record { from = record { left = a; top = up; right = c; bottom = omega (arith, ints) }; to = record { left = b; top = omega (arith, ints); right = d; bottom = up } }) on in
-    (has.left, has.right))
+    let has = in_box_of_ends line u v least _ most _ (record { one_least = a; other_least = b; one_most = c; other_most = d }) (by_size line.from.y line.to.y) on in (has.left, has.right)
 
 -- and between their rows
 between_rows : (line : Line) (u v least most : ℤ) → least ≤ℤ line.from.y → least ≤ℤ line.to.y → line.from.y ≤ℤ most → line.to.y ≤ℤ most → on_line line u v ≡ true → (least ≤ℤ v) × (v ≤ℤ most)
 between_rows line u v least most a b c d on =
-    by_lt_z line.from.x line.to.x
-    (λ (right : line.from.x <ℤ line.to.x).
-    let has = on_line_has (record { l = line.from.x; t = least; r = line.to.x; b = most }) line u v
-    (record { from = record { left = omega (arith, ints); top = a; right = omega (arith, ints, right); bottom = c }; to = record { left = omega (arith, ints, right); top = b; right = omega (arith, ints); bottom = d } }) on in
-    (has.top, has.bottom))
-    (λ (left : line.to.x ≤ℤ line.from.x).
-    let has = on_line_has (record { l = line.to.x; t = least; r = line.from.x; b = most }) line u v
-    (record { from = record { left = left; top = a; right = omega (arith, ints); bottom = c }; to = record { left = omega (arith, ints); top = b; right = left; bottom = d } }) on in
-    (has.top, has.bottom))
+    let has = in_box_of_ends line u v _ least _ most (by_size line.from.x line.to.x) (record { one_least = a; other_least = b; one_most = c; other_most = d }) on in (has.top, has.bottom)
 
 -- a line has no pixel after both its ends
 pub ends_before : (line : Line) (row u v : ℤ) → EndsBefore row line → on_line line u v ≡ true → v <ℤ row
 ends_before line row u v ends on =
+    let rows = by_size line.from.y line.to.y in
     let a = ends.0 in
     let b = ends.1 in
-    by_lt_z line.from.y line.to.y
-    (λ (down : line.from.y <ℤ line.to.y). let e = (between_rows line u v line.from.y line.to.y (omega (arith, ints)) (omega (arith, ints, down)) (omega (arith, ints, down)) (omega (arith, ints)) on).1 in omega (arith, ints, b, e))
-    (λ (up : line.to.y ≤ℤ line.from.y). let e = (between_rows line u v line.to.y line.from.y up (omega (arith, ints)) (omega (arith, ints)) up on).1 in omega (arith, ints, a, e))
+    let last = (between_rows line u v _ (row -ℤ pos 1) rows.one_least rows.other_least (omega (arith, ints, a)) (omega (arith, ints, b)) on).1 in
+    omega (arith, ints, last)
 
 -- and none before both
 pub ends_from : (line : Line) (row u v : ℤ) → EndsFrom row line → on_line line u v ≡ true → row ≤ℤ v
 ends_from line row u v ends on =
-    let a = ends.0 in
-    let b = ends.1 in
-    by_lt_z line.from.y line.to.y
-    (λ (down : line.from.y <ℤ line.to.y). let e = (between_rows line u v line.from.y line.to.y (omega (arith, ints)) (omega (arith, ints, down)) (omega (arith, ints, down)) (omega (arith, ints)) on).0 in omega (arith, ints, a, e))
-    (λ (up : line.to.y ≤ℤ line.from.y). let e = (between_rows line u v line.to.y line.from.y up (omega (arith, ints)) (omega (arith, ints)) up on).0 in omega (arith, ints, b, e))
+    let rows = by_size line.from.y line.to.y in
+    (between_rows line u v row _ ends.0 ends.1 rows.one_most rows.other_most on).0
 
 -- what the nib covers in a region is near to a column between the line's ends
 pub around_ends :
@@ -98,7 +105,7 @@ tall_reported frame line w new row from count x is all takes line_is nib_is wide
     let end = all.last in
     let left = takes.left in
     let next : w.next ≡ tall_row frame from count = omega (arith, ints, first, end, left) in
-    columns_reported w new row line (tall_nib frame count) (x + frame.region.columns.from) (tall_row frame from count) takes line_is nib_is next wide ∙ tall_covers frame line from count x is test
+    columns_reported w row line (tall_nib frame count) (x + frame.region.columns.from) (tall_row frame from count) (takes.columns (x + frame.region.columns.from) wide) line_is nib_is next ∙ tall_covers frame line from count x is test
 
 -- and where it has no row there is nothing
 pub tall_nothing :

@@ -26,6 +26,7 @@ pub mod LonePairLemmas
 pub mod CrossedLemmas
 pub mod WindingLemmas
 pub mod TableLemmas
+pub mod OneRowMoves
 mod WorkedFills
 mod WorkedNibs
 mod WorkedNumbers

@@ -1,13 +1,15 @@
 -- A line marked row by row.
 use Rattle.std.proofs.Common.{◌≡◌, ℕ, suc, ◌+◌, ◌<◌, Bool, true, false, ◌&&◌, ◌||◌, nat_eq, min, ℤ, pos, ◌-ℤ◌, ◌≤ℤ◌, ◌<ℤ◌, refl, ap, sym, ◌∙◌, arith}
-use Rattle.std.specs.Prelude.{unsigned_abs}
+use Rattle.std.specs.Prelude.{◌↔◌, IsTrue, unsigned_abs}
 use Rattle.std.proofs.Math.Bool.{or_assoc}
 use Rattle.std.proofs.lemmas.Bool.{and_right, false_from_ne_true}
 use Rattle.std.proofs.lemmas.Int.{ints}
 use Rattle.mapping.specs.declared.nib.Nib.{Nib}
 use Rattle.span_fill.specs.MaskFrames.{first_row, marks_at, marks_in, mask_row, row_at}
+use Rattle.span_fill.specs.Clips.{IsIn}
 use Rattle.span_fill.specs.Spans.{in_span}
-use Rattle.span_fill.specs.WideLines.{HasAllRows, TakesRow, WideLineState}
+use Rattle.span_fill.specs.StrokeMasks.{width_of}
+use Rattle.span_fill.specs.WideLines.{HasAllRows, TakesRowAmong, WideLineState}
 use Rattle.span_fill.specs.WideStrokes.{on_wide_line, row_of}
 use Rattle.span_fill.specs.declared.line.Line.{Line}
 use Rattle.span_fill.specs.declared.mask_frame.MaskFrame.{MaskFrame}
@@ -49,15 +51,15 @@ none_after nib line w from to x y all line_is nib_is first after last = false_fr
 
 -- the columns of a row are what the nib covers there
 pub columns_reported :
-    (w new : WideLineState) (row : WideRow) (line : Line) (nib : Nib) (x : ℕ) (y : ℤ) → TakesRow w new row → w.line ≡ line → w.nib ≡ nib → w.next ≡ y → x < 8192
+    (w : WideLineState) (row : WideRow) (line : Line) (nib : Nib) (x : ℕ) (y : ℤ) → IsIn row.columns x ↔ IsTrue (on_wide_line w.nib w.line (pos x) w.next) → w.line ≡ line → w.nib ≡ nib → w.next ≡ y
     → in_span row.columns x ≡ on_wide_line nib line (pos x) y
-columns_reported w new row line nib x y takes line_is nib_is next wide =
-    span_test row.columns x (on_wide_line w.nib w.line (pos x) w.next) (takes.columns x wide) ∙ reported w line nib (pos x) w.next line_is nib_is ∙ ap (λ (r : ℤ). on_wide_line nib line (pos x) r) next
+columns_reported w row line nib x y exact line_is nib_is next =
+    span_test row.columns x (on_wide_line w.nib w.line (pos x) w.next) exact ∙ reported w line nib (pos x) w.next line_is nib_is ∙ ap (λ (r : ℤ). on_wide_line nib line (pos x) r) next
 
 -- one row more
 pub row_more :
-    (frame : MaskFrame) (line : Line) (w new : WideLineState) (row : WideRow) {bit old : Bool} (start : Bool) (from count x i : ℕ) → TakesRow w new row → w.line ≡ line → w.nib ≡ row_of frame.nib
-    → row_at frame from ≤ℤ w.next → w.end ≤ℤ row_at frame (from + count) → x + frame.region.columns.from < 8192
+    (frame : MaskFrame) (line : Line) (w new : WideLineState) (row : WideRow) {bit old : Bool} (start : Bool) (from count x i : ℕ) → TakesRowAmong frame.region.columns w new row → w.line ≡ line → w.nib ≡ row_of frame.nib
+    → row_at frame from ≤ℤ w.next → w.end ≤ℤ row_at frame (from + count) → x < width_of frame.region
     → bit ≡ (old || (nat_eq i (mask_row frame (unsigned_abs (row.y -ℤ first_row frame))) && in_span row.columns (x + frame.region.columns.from)))
     → old ≡ (start || marks_in frame line from (rows_before frame from count w.next) x i) → bit ≡ (start || marks_in frame line from (rows_before frame from count new.next) x i)
 row_more frame line w new row {bit} {old} start from count x i takes line_is nib_is first last wide set before =
@@ -71,7 +73,7 @@ row_more frame line w new row {bit} {old} start from count x i takes line_is nib
     set
     ∙ ap (λ (q : ℕ). old || (nat_eq i (mask_row frame q) && in_span row.columns (x + frame.region.columns.from))) number
     ∙ ap (λ (b : Bool). old || (nat_eq i (mask_row frame (from + unsigned_abs (w.next -ℤ row_at frame from))) && b))
-    (columns_reported w new row line (row_of frame.nib) (x + frame.region.columns.from) (row_at frame (from + unsigned_abs (w.next -ℤ row_at frame from))) takes line_is nib_is place wide)
+    (columns_reported w row line (row_of frame.nib) (x + frame.region.columns.from) (row_at frame (from + unsigned_abs (w.next -ℤ row_at frame from))) (takes.exact (x + frame.region.columns.from) (omega arith, omega (arith, wide))) line_is nib_is place)
     ∙ ap (λ (b : Bool). b || marks_at frame line x i (from + unsigned_abs (w.next -ℤ row_at frame from))) (before ∙ ap (λ n. start || marks_in frame line from n x i) here)
     ∙ last_first start (marks_in frame line from (unsigned_abs (w.next -ℤ row_at frame from)) x i) (marks_at frame line x i (from + unsigned_abs (w.next -ℤ row_at frame from)))
     ∙ ap (λ n. start || marks_in frame line from n x i) (sym after)

@@ -72,7 +72,7 @@ shared_set frame line w new row {bit} old place x i is some all takes line_is ni
     let next : w.next ≡ shared_row frame = omega (arith, ints, first, end, left) in
     set
     ∙ ap (λ (q : ℕ). old || (nat_eq i q && in_span row.columns (x + frame.region.columns.from))) last
-    ∙ ap (λ (b : Bool). old || (nat_eq i (height_of frame.region - 1) && b)) (columns_reported w new row line (shared_nib frame) (x + frame.region.columns.from) (shared_row frame) takes line_is nib_is next wide)
+    ∙ ap (λ (b : Bool). old || (nat_eq i (height_of frame.region - 1) && b)) (columns_reported w row line (shared_nib frame) (x + frame.region.columns.from) (shared_row frame) (takes.columns (x + frame.region.columns.from) wide) line_is nib_is next)
     ∙ ap (λ (b : Bool). old || b) (shared_marks frame line x i is some)
 
 -- and where it covers nothing

@@ -166,14 +166,13 @@ span_test span x b iff =
 
 -- what a strip has of its row
 pub part_exact :
-    (nib : Nib) (row to : ℤ) (s : WideEdge) (span : Span) → IsNib nib → IsActive nib row to s
-    → ((x : ℕ) → x < 8192 → IsIn span x ↔ LiesNear nib (part_low s) (part_high s) (pos x)) → (x : ℕ) → x < 8192 → IsIn span x ↔ IsTrue (on_wide_line nib s.line (pos x) row)
-part_exact nib row to s span is active part x within =
+    (nib : Nib) (row to : ℤ) (s : WideEdge) (span : Span) (x : ℕ) → IsNib nib → IsActive nib row to s
+    → IsIn span x ↔ LiesNear nib (part_low s) (part_high s) (pos x) → IsIn span x ↔ IsTrue (on_wide_line nib s.line (pos x) row)
+part_exact nib row to s span x is active columns =
     let exact = near_exact nib row s is active.at (pos x) in
-    let columns = part x within in
     (λ h. exact.1 (columns.0 h), λ t. columns.1 (exact.0 t))
 
 pub part_test :
-    (nib : Nib) (row to : ℤ) (s : WideEdge) (span : Span) → IsNib nib → IsActive nib row to s
-    → ((x : ℕ) → x < 8192 → IsIn span x ↔ LiesNear nib (part_low s) (part_high s) (pos x)) → (x : ℕ) → x < 8192 → in_span span x ≡ on_wide_line nib s.line (pos x) row
-part_test nib row to s span is active part x within = span_test span x (on_wide_line nib s.line (pos x) row) (part_exact nib row to s span is active part x within)
+    (nib : Nib) (row to : ℤ) (s : WideEdge) (span : Span) (x : ℕ) → IsNib nib → IsActive nib row to s
+    → IsIn span x ↔ LiesNear nib (part_low s) (part_high s) (pos x) → in_span span x ≡ on_wide_line nib s.line (pos x) row
+part_test nib row to s span x is active columns = span_test span x (on_wide_line nib s.line (pos x) row) (part_exact nib row to s span x is active columns)

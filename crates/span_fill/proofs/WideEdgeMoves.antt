@@ -89,7 +89,7 @@ can_move slope line row step stepper small near close adds is =
     stepper_can_move (total_of slope line.from row) slope.step slope.divisor step stepper adds is (omega (arith, ints, total)) (omega (arith, ints, total)) (omega (arith, ints, more)) (omega (arith, ints, more)) small.divisor_high
 
 -- the ends of the rows that a nib reaches are near
-top_near :
+pub top_near :
     (nib : Nib) (row from to : ℤ) → IsNib nib → IsNearRow row → top_of nib row from ≤ℤ bottom_of nib row to
     → unsigned_abs (top_of nib row from) ≤ 2 ^ 14
 top_near nib row from to is close order =
@@ -99,7 +99,7 @@ top_near nib row from to is close order =
     let low = close.low in let high = close.high in
     let d = is.y.within in omega (arith, ints, a, b, c, d, order, low, high)
 
-bottom_near :
+pub bottom_near :
     (nib : Nib) (row from to : ℤ) → IsNib nib → IsNearRow row → top_of nib row from ≤ℤ bottom_of nib row to
     → unsigned_abs (bottom_of nib row to) ≤ 16382
 bottom_near nib row from to is close order =
@@ -109,12 +109,12 @@ bottom_near nib row from to is close order =
     let low = close.low in let high = close.high in
     let d = is.y.within in omega (arith, ints, a, b, c, d, order, low, high)
 
-end_near : (y_major : Bool) (bottom : ℤ) → unsigned_abs bottom ≤ 16382 → unsigned_abs (end_row y_major bottom) ≤ 2 ^ 14
+pub end_near : (y_major : Bool) (bottom : ℤ) → unsigned_abs bottom ≤ 16382 → unsigned_abs (end_row y_major bottom) ≤ 2 ^ 14
 end_near true bottom h = omega (arith, h)
 end_near false bottom h = omega (arith, ints, h)
 
 -- from the next row it reaches some too
-next_order :
+pub next_order :
     (nib : Nib) (row from to : ℤ) → top_of nib row from ≤ℤ bottom_of nib row to → (row +ℤ pos 1 -ℤ pos (reach_after nib.y)) <ℤ to
     → top_of nib (row +ℤ pos 1) from ≤ℤ bottom_of nib (row +ℤ pos 1) to
 next_order nib row from to order reached =

@@ -1,15 +1,18 @@
 -- What a strip at a row says of the row.
-use Rattle.std.proofs.Common.{◌≡◌, ℕ, ◌^◌, ◌≤◌, Bool, true, false, ℤ, pos, negsuc, ◌+ℤ◌, ◌-ℤ◌, ◌≤ℤ◌, ◌<ℤ◌, refl, ap, sym, subst, ◌∙◌, arith}
+use Rattle.std.proofs.Common.{◌≡◌, ℕ, ◌^◌, ◌≤◌, Bool, true, false, ◌&&◌, ℤ, pos, negsuc, ◌+ℤ◌, ◌-ℤ◌, ◌≤ℤ◌, ◌<ℤ◌, refl, ap, sym, subst, ◌∙◌, arith}
 use Rattle.std.specs.Prelude.{FitsSigned, ◌↔◌, IsTrue, unsigned_abs}
 use Rattle.std.specs.Int.{int_max, int_min, w32, w64}
 use Rattle.std.proofs.lemmas.Int.{ints, by_lt_z, fits_signed_from_abs}
+use Rattle.std.proofs.lemmas.Bool.{and_from, and_parts}
 use Rattle.mapping.specs.Nibs.{IsNib, reach_before, reach_after}
+use Rattle.mapping.specs.PixelBoxes.{from_to_from, from_to_true, is_from_to}
 use Rattle.mapping.specs.declared.nib.Nib.{Nib}
 use Rattle.span_fill.specs.Clips.{IsIn}
 use Rattle.span_fill.specs.MajorLines.{major_of, length_of}
 use Rattle.span_fill.specs.declared.major_line.MajorLine.{MajorLine}
 use Rattle.span_fill.specs.RowSlopes.{total_of}
 use Rattle.span_fill.specs.declared.bounds.CoordinateRange.{CoordinateRange}
+use Rattle.span_fill.specs.Spans.{in_span}
 use Rattle.span_fill.specs.Strokes.{is_y_major}
 use Rattle.span_fill.specs.WideEdges.{HasColumns, HasRow, HasRows, IsDrawn, IsHull, IsRun, IsAtRow, ReachesRows, wide_edge_row_slope, IsGreater, IsLesser, IsMeet, LiesNear, MissesRow, bottom_of, column_in, end_row, high_over, last_in, low_over, part_high, part_low, top_of}
 use Rattle.span_fill.specs.WideStrokes.{on_wide_line}
@@ -18,6 +21,7 @@ use Rattle.span_fill.specs.declared.span.Span.{Span}
 use Rattle.span_fill.specs.declared.wide_edge.WideEdge.{WideEdge}
 use Rattle.span_fill.proofs.CoverLemmas.{covered}
 use Rattle.span_fill.proofs.SeveralRows.{column_is}
+use Rattle.span_fill.proofs.SpanLemmas.{in_from, is_in}
 use Rattle.span_fill.proofs.WideLawLemmas.{drawn_x_major, drawn_y_major, x_major_columns, x_major_rows, meet_from, no_pixel, y_major_columns, y_major_rows, y_major_some, wide_exact, window_from}
 
 -- a number of 32 bits
@@ -78,25 +82,23 @@ near_exact nib row s is at x =
     (subst (λ (b : ℤ). IsMeet (low_over s.first.column s.last.column) s.columns.from b s.columns.to (part_low s) (part_high s)) (sym high) meet) in
     wide_exact nib s.y_major s.line row s.rows.from s.rows.to s.columns.from s.columns.to top bottom (part_low s) (part_high s) x is at.drawn at.rows at.columns window met
 
--- a span from the first seen column at a coordinate up to before the first at another
-pub seen_near : (nib : Nib) (low high : ℤ) (span : Span) (x : ℕ) → low <ℤ high
-    → (span.from ≤ x ↔ ((low -ℤ pos (reach_before nib.x)) ≤ℤ pos x)) → (span.to ≤ x ↔ ((high +ℤ pos (reach_after nib.x)) ≤ℤ pos x))
+-- of some columns, those between two coordinates
+pub seen_near : (nib : Nib) (low high : ℤ) (columns span : Span) (x : ℕ) → low <ℤ high
+    → in_span span x ≡ (in_span columns x && is_from_to (low -ℤ pos (reach_before nib.x)) (high +ℤ pos (reach_after nib.x)) x) → IsIn columns x
     → IsIn span x ↔ LiesNear nib low high (pos x)
-seen_near nib low high span x some from to = (
-  λ h. record {
-    some = some;
-    left = from.0 h.0;
-    right = by_lt_z (pos x) (high +ℤ pos (reach_after nib.x)) (λ g. g) (λ g. let k = to.1 g in absurd (omega (arith, k, h.1)));
-  },
-  λ h. (
-    from.1 h.left,
-    by_lt_z (pos x) (pos span.to) (λ (g : pos x <ℤ pos span.to). omega (arith, ints, g)) (λ (g : pos span.to ≤ℤ pos x). let k = to.0 (omega (arith, ints, g)) in let m = h.right in absurd (omega (arith, ints, k, m))),
-  ),
+seen_near nib low high columns span x some e inside = (
+  λ h.
+      let parts = and_parts (in_span columns x) (is_from_to (low -ℤ pos (reach_before nib.x)) (high +ℤ pos (reach_after nib.x)) x) (sym e ∙ in_from span x h) in
+      let range = from_to_true (low -ℤ pos (reach_before nib.x)) (high +ℤ pos (reach_after nib.x)) x parts.1 in
+      record { some = some; left = range.0; right = range.1 },
+  λ h.
+      is_in span x (e ∙ and_from (in_span columns x) (is_from_to (low -ℤ pos (reach_before nib.x)) (high +ℤ pos (reach_after nib.x)) x) (in_from columns x inside)
+      (from_to_from (low -ℤ pos (reach_before nib.x)) (high +ℤ pos (reach_after nib.x)) x h.left h.right)),
 )
 
 -- and none where nothing lies between
-pub seen_none : (nib : Nib) (low high : ℤ) (x : ℕ) → high ≤ℤ low → IsIn (record { from = 0; to = 0 }) x ↔ LiesNear nib low high (pos x)
-seen_none nib low high x none = ((λ h. absurd (omega (arith, h.1))), λ h. let k = h.some in absurd (omega (arith, ints, k, none)))
+pub seen_none : (nib : Nib) (low high : ℤ) (from x : ℕ) → high ≤ℤ low → IsIn (record { from = from; to = from }) x ↔ LiesNear nib low high (pos x)
+seen_none nib low high from x none = ((λ h. let a = h.0 in let b = h.1 in absurd (omega (arith, a, b))), λ h. let k = h.some in absurd (omega (arith, ints, k, none)))
 
 -- of a line either way
 pub rows_have : (y_major : Bool) (line : Line) (major : MajorLine) (from to : ℤ) → y_major ≡ is_y_major line → major ≡ major_of y_major line

@@ -1,6 +1,6 @@
 -- One line's strip from row to row.
 use Rattle.std.proofs.Common.{◌≡◌, ℕ, ◌<◌, ◌≤◌, ℤ, pos, negsuc, ◌+ℤ◌, ◌-ℤ◌, ◌≤ℤ◌, ◌<ℤ◌, true, arith, refl, ap, subst, sym, ◌∙◌}
-use Rattle.std.specs.Prelude.{FitsSigned, ◌↔◌}
+use Rattle.std.specs.Prelude.{FitsSigned, ◌↔◌, Option, Some, None}
 use Rattle.std.specs.Int.{w32}
 use Rattle.std.proofs.lemmas.Int.{fits_signed_from_abs, ints}
 use Rattle.std.proofs.lemmas.Bool.{true≢false}
@@ -10,13 +10,14 @@ use Rattle.span_fill.specs.Clips.{IsIn}
 use Rattle.span_fill.specs.StrokeRows.{HasSeen, IsActive, IsBegun, IsPassed, IsPast}
 use Rattle.span_fill.specs.WideEdges.{IsAtRow, IsNearRow, LiesNear, part_high, part_low}
 use Rattle.span_fill.specs.WideLineInside.{IsWideLine}
-use Rattle.span_fill.specs.WideLines.{HasAllRows, TakesRow}
+use Rattle.span_fill.specs.WideLines.{GivesRow, GivesRowAmong, HasAllRows, TakesRowAmong, WideLineState}
 use Rattle.span_fill.specs.WideStrokes.{on_wide_line}
 use Rattle.span_fill.specs.declared.bounds.CoordinateRange.{CoordinateRange}
 use Rattle.span_fill.specs.declared.line.Line.{Line}
 use Rattle.span_fill.specs.declared.span.Span.{Span}
 use Rattle.span_fill.specs.declared.wide_edge.WideEdge.{WideEdge}
 use Rattle.span_fill.specs.declared.wide_line.WideLine.TheInside.{Inside}
+use Rattle.span_fill.specs.declared.wide_line.WideRow.{WideRow}
 use Rattle.span_fill.proofs.WideEdgeSeen.{active_passed, passed_active, reaches_next}
 use Rattle.span_fill.proofs.StrokeLemmas.{part_exact}
 
@@ -114,17 +115,34 @@ line_next a new is more line rows seen at =
 
 -- the row is given
 pub line_taken :
-    (a : Inside) (new : WideEdge) (columns : Span) → IsWideLine a → a.next <ℤ a.edge.seen.to → new.line ≡ a.edge.line → new.seen ≡ a.edge.seen
-    → ((x : ℕ) → x < 8192 → IsIn columns x ↔ LiesNear a.nib (part_low a.edge) (part_high a.edge) (pos x)) → columns.to ≤ 8192
-    → TakesRow (record { line = a.edge.line; nib = a.nib; next = a.next; end = a.edge.seen.to })
+    (a : Inside) (new : WideEdge) (seen columns : Span) → IsWideLine a → a.next <ℤ a.edge.seen.to → new.line ≡ a.edge.line → new.seen ≡ a.edge.seen
+    → ((x : ℕ) → IsIn seen x → IsIn columns x ↔ LiesNear a.nib (part_low a.edge) (part_high a.edge) (pos x))
+    → seen.from ≤ columns.from → columns.from ≤ columns.to → columns.to ≤ seen.to
+    → TakesRowAmong seen (record { line = a.edge.line; nib = a.nib; next = a.next; end = a.edge.seen.to })
     (record { line = new.line; nib = a.nib; next = a.next +ℤ pos 1; end = new.seen.to }) (record { y = a.next; columns = columns })
-line_taken a new columns is more line seen part within = record {
+line_taken a new seen columns is more line rows part first order last = record {
   left = more;
   row = refl;
-  columns = part_exact a.nib a.next a.edge.seen.to a.edge columns is.nib (active_now a is more) part;
-  within = within;
+  exact = λ x inside. part_exact a.nib a.next a.edge.seen.to a.edge columns x is.nib (active_now a is more) (part x inside);
+  first = first;
+  order = order;
+  last = last;
   line = line;
   nib = refl;
   next = refl;
-  end = ap (λ (r : CoordinateRange). r.to) seen;
+  end = ap (λ (r : CoordinateRange). r.to) rows;
+}
+
+-- the same of all columns
+pub given_of_all : (old new : WideLineState) (given : Option WideRow) → GivesRowAmong (record { from = 0; to = 8192 }) old given new → GivesRow old given new
+given_of_all old new None ended = ended
+given_of_all old new (Some row) takes = record {
+  left = takes.left;
+  row = takes.row;
+  columns = λ x wide. takes.exact x (omega arith, wide);
+  within = takes.last;
+  line = takes.line;
+  nib = takes.nib;
+  next = takes.next;
+  end = takes.end;
 }

@@ -50,12 +50,11 @@ largest_surface = record { l = pos 0; t = pos 0; r = pos 8191; b = pos 8191 }
 abbrev pub IsAround : Nib → ℕ → ℕ → Type 0
 IsAround nib x n = (x ≤ n + reach_before nib.x) × (n ≤ x + reach_after nib.x)
 
--- there are 1 to 64 columns, and all of them are among others
-pub record IsNarrowPart (columns others : Span) : Type 0 where
+-- all of some columns are among others
+pub record IsPart (columns others : Span) : Type 0 where
   pub first : others.from ≤ columns.from
+  pub order : columns.from ≤ columns.to
   pub last : columns.to ≤ others.to
-  pub some : columns.from < columns.to
-  pub few : columns.to ≤ columns.from + 64
 
 -- each of the first rows has what it and the rows after it had, this many rows in all
 abbrev pub Widens : ℕ → ℕ → BitRowsState → BitRowsState → Type 0

@@ -1,8 +1,7 @@
--- What is known before the first pixel of a line that a narrow nib marks.
+-- What is known before the first pixel of a line that is marked.
 use Rattle.std.specs.Prelude.{◌≡◌, ℕ, ◌+◌, ◌<◌, ◌≤◌, ℤ, pos, ◌+ℤ◌, ◌-ℤ◌, ◌≤ℤ◌, ◌<ℤ◌, unsigned_abs}
 use Rattle.mapping.specs.Nibs.{reach_after, reach_before}
 use Rattle.span_fill.specs.MaskFrames.{first_row, mask_row}
-use Rattle.span_fill.specs.MaskMarks.{IsNarrowPart}
 use Rattle.span_fill.specs.declared.line.Line.{Line}
 use Rattle.span_fill.specs.declared.mask_frame.MaskFrame.{MaskFrame}
 use Rattle.span_fill.specs.declared.mask_runs.Runs.{Runs}
@@ -17,17 +16,22 @@ IsInside frame x =
 abbrev pub IsBehind : MaskFrame → ℕ → ℕ → ℕ → Type 0
 IsBehind frame from count shift = (k : ℕ) → k < count → mask_row frame (from + k) + shift ≡ from + k
 
--- the nib has few columns, they lie in the region around each end of the line, and the mask has rows of their own for some
--- rows of lines
-pub record AreRunsOf (frame : MaskFrame) (line : Line) (from count : ℕ) (runs : Runs) : Type 0 where
+-- the row of the mask for a row is so many rows behind it
+abbrev pub IsShiftOf : MaskFrame → ℤ → ℕ → Type 0
+IsShiftOf frame row shift = mask_row frame (unsigned_abs (row -ℤ first_row frame)) + shift ≡ unsigned_abs (row -ℤ first_row frame)
+
+-- the nib has few columns, and they lie in the region around each end of the line
+pub record AreRuns (frame : MaskFrame) (line : Line) (runs : Runs) : Type 0 where
   pub width : runs.width ≡ frame.nib.x
   pub few : frame.nib.x ≤ 64
   pub first_end : IsInside frame line.from.x
   pub last_end : IsInside frame line.to.x
-  pub own : IsBehind frame from count runs.shift
 
--- a row has so few columns, all in the region, and its row of the mask is so many rows behind it
+-- a row has as many columns as are known, from 1 to 64, all of them in the region, and its row of the mask is known too
 pub record IsRunOf (frame : MaskFrame) (row : WideRow) (runs : Runs) : Type 0 where
-  pub narrow : IsNarrowPart row.columns frame.region.columns
+  pub first : frame.region.columns.from ≤ row.columns.from
+  pub last : row.columns.to ≤ frame.region.columns.to
+  pub some : 1 ≤ runs.width
+  pub few : runs.width ≤ 64
   pub width : row.columns.to ≡ row.columns.from + runs.width
-  pub own : mask_row frame (unsigned_abs (row.y -ℤ first_row frame)) + runs.shift ≡ unsigned_abs (row.y -ℤ first_row frame)
+  pub own : IsShiftOf frame row.y runs.shift

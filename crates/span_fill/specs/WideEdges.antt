@@ -13,6 +13,7 @@ use Rattle.span_fill.specs.WideStrokes.{on_wide_line}
 use Rattle.span_fill.specs.declared.major_line.MajorLine.{MajorLine}
 use Rattle.span_fill.specs.declared.line.Line.{Line}
 use Rattle.span_fill.specs.declared.row_slope.RowSlope.{RowSlope}
+use Rattle.span_fill.specs.declared.stepper.Stepper.{Stepper}
 use Rattle.span_fill.specs.declared.wide_edge.WideEdge.{WideEdge}
 use Rattle.span_fill.specs.declared.bounds.CoordinateRange.{CoordinateRange}
 
@@ -115,6 +116,10 @@ bottom_of nib row to = int_min (row +ℤ pos (reach_before nib.y)) (to -ℤ pos 
 abbrev pub end_row : Bool → ℤ → ℤ
 end_row true bottom = bottom
 end_row false bottom = bottom +ℤ pos 1
+
+-- where a line crosses a row, if the last row before it ends at one crossing, and this row at another
+abbrev pub crossing_of : Bool → Stepper → Stepper → Stepper
+crossing_of y_major before here = if y_major then here else before
 
 -- the numbers of a strip's line
 abbrev pub wide_edge_row_slope : WideEdge → RowSlope

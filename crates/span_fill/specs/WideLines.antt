@@ -4,6 +4,7 @@ use Rattle.mapping.specs.declared.nib.Nib.{Nib}
 use Rattle.span_fill.specs.Clips.{IsIn}
 use Rattle.span_fill.specs.WideStrokes.{on_wide_line}
 use Rattle.span_fill.specs.declared.line.Line.{Line}
+use Rattle.span_fill.specs.declared.span.Span.{Span}
 use Rattle.span_fill.specs.declared.wide_line.WideRow.{WideRow}
 
 -- the line, the nib, and the remaining rows: from `next` to before `end`
@@ -30,7 +31,25 @@ pub record TakesRow (old new : WideLineState) (given : WideRow) : Type 0 where
   pub next : new.next ≡ old.next +ℤ pos 1
   pub end : new.end ≡ old.end
 
+-- the next row is returned, with those among some columns that the nib covers there
+pub record TakesRowAmong (columns : Span) (old new : WideLineState) (given : WideRow) : Type 0 where
+  pub left : old.next <ℤ old.end
+  pub row : given.y ≡ old.next
+  pub exact : (x : ℕ) → IsIn columns x → IsIn given.columns x ↔ IsTrue (on_wide_line old.nib old.line (pos x) old.next)
+  pub first : columns.from ≤ given.columns.from
+  pub order : given.columns.from ≤ given.columns.to
+  pub last : given.columns.to ≤ columns.to
+  pub line : new.line ≡ old.line
+  pub nib : new.nib ≡ old.nib
+  pub next : new.next ≡ old.next +ℤ pos 1
+  pub end : new.end ≡ old.end
+
 -- the next row is returned, or nothing after the last one
 abbrev pub GivesRow : WideLineState → Option WideRow → WideLineState → Type 0
 GivesRow old None new = (old.end ≤ℤ old.next) × (new ≡ old)
 GivesRow old (Some row) new = TakesRow old new row
+
+-- the same, of some columns
+abbrev pub GivesRowAmong : Span → WideLineState → Option WideRow → WideLineState → Type 0
+GivesRowAmong columns old None new = (old.end ≤ℤ old.next) × (new ≡ old)
+GivesRowAmong columns old (Some row) new = TakesRowAmong columns old new row

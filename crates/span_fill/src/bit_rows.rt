@@ -79,7 +79,8 @@ impl BitRows {
         fill_words(&mut self.words[..], 0, count, 0);
     }
 
-    /// Sets the bits of a row from column `from` to before `to`.
+    /// Sets the bits of a row from column `from` to before `to`. (Apart, this leaves the registers to others.)
+    #[inline(never)]
     pub(crate) fn set(&mut self, row: u32, from: u32, to: u32)
         requires row { row < self.old.rows }
         requires order { from ≤ to }

@@ -71,7 +71,7 @@ fn if_any(columns: Span) -> Option<Span>
 }
 
 /// Covers what the nib covers along a line. Columns in which all pixels are known to be covered may have been found.
-/// Returns how many rows of lines were marked one by one.
+/// Returns how many rows or pixels of the line were marked one by one.
 #[inline(always)]
 fn cover_next(bits: &mut BitRows, line: Line, frame: MaskFrame, known: Option<Span>) -> u32
     requires frame { IsMaskFrame frame }
@@ -158,7 +158,7 @@ fn cover_line(bits: &mut BitRows, line: Line, frame: MaskFrame, known: Span) -> 
 }
 
 /// Covers what the nib's columns cover along a line in some rows of lines, unless that lies in columns that are known to
-/// be covered. Returns how many rows were marked.
+/// be covered. Returns how many rows or pixels were marked.
 fn cover_rows(bits: &mut BitRows, line: Line, frame: MaskFrame, from: u32, count: u32) -> u32
     requires frame { IsMaskFrame frame }
     requires size { HasRows frame bits.old }

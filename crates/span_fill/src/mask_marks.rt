@@ -8,14 +8,14 @@ ghost use Rattle.span_fill.specs.Clips.{IsIn};
 ghost use Rattle.span_fill.specs.LineBoxes.{HasLine};
 ghost use Rattle.span_fill.specs.Lines.{HasNearEnds};
 ghost use Rattle.span_fill.specs.MaskFrames.{IsMaskFrame, first_row, row_at, row_count, spare_of};
-ghost use Rattle.span_fill.specs.MaskMarks.{HasRows, IsAround, IsNarrowPart, MarksColumns, MarksLine, MarksRow, MarksRows, Widens, largest_surface};
-ghost use Rattle.span_fill.specs.MaskRuns.{IsRunOf};
+ghost use Rattle.span_fill.specs.MaskMarks.{HasRows, IsAround, IsPart, MarksColumns, MarksLine, MarksRow, MarksRows, Widens, largest_surface};
+ghost use Rattle.span_fill.specs.MaskRuns.{IsRunOf, IsShiftOf};
 ghost use Rattle.span_fill.specs.StrokeMasks.{height_of};
 
 use crate::bit_rows::BitRows;
 use crate::line::Line;
 use crate::mask_frame::MaskFrame;
-use crate::mask_runs::{MOST_COLUMNS, Runs, mark_run, runs_of};
+use crate::mask_runs::{MOST_COLUMNS, Runs, mark_run, own_row, runs_of, shift_of};
 use crate::pixel::Pixel;
 use crate::span::Span;
 use crate::steps::LineSteps;
@@ -25,7 +25,7 @@ use mapping::{Nib, Point, reach_after, reach_before};
 /// With so many pixels in each of a line's rows, both ways take about as long.
 const PIXELS_A_ROW: u32 = 3;
 
-/// Marks what the nib's columns cover along a line. Returns how many rows were marked one by one.
+/// Marks what the nib's columns cover along a line. Returns how many rows or pixels were marked one by one.
 #[inline]
 pub(crate) fn mark_line(bits: &mut BitRows, line: Line, frame: MaskFrame) -> u32
     requires frame { IsMaskFrame frame }
@@ -48,7 +48,8 @@ pub(crate) fn mark_line(bits: &mut BitRows, line: Line, frame: MaskFrame) -> u32
     first.wrapping_add(last)
 }
 
-/// Marks what the nib's columns cover in some rows of lines. Returns how many of them were marked.
+/// Marks what the nib's columns cover in some rows of lines. Returns how many of them were marked, or how many pixels, if
+/// the line has few in each row.
 pub(crate) fn mark_rows(
     bits: &mut BitRows,
     line: Line,
@@ -87,9 +88,10 @@ fn mark_wide_rows(bits: &mut BitRows, line: Line, frame: MaskFrame, from: u32, c
         frame.row_at(from),
         frame.row_at(from + count),
     );
+    let shift = shift_of(frame, from, count);
     let mut marked = 0_u32;
-    while let Some(row) = rows.next() {
-        mark_row(bits, row, frame);
+    while let Some(row) = rows.next_among(frame.region.columns) {
+        mark_seen(bits, row.columns, frame, own_row(row.y, frame, shift));
         marked = marked.wrapping_add(1);
     }
     marked
@@ -107,31 +109,40 @@ fn mark_steps(bits: &mut BitRows, line: Line, frame: MaskFrame, from: u32, count
     ensures size { HasSize bits.new bits.old.rows bits.old.columns }
 {
     let region = frame.surface_rows(from, count);
-    let runs = runs_of(line, frame, from, count);
+    let shift = shift_of(frame, from, count);
+    let runs = runs_of(line, frame, shift);
     let mut steps = LineSteps::new(line, region);
     let mut marked = 0_u32;
     while let Some(pixel) = steps.next() {
-        mark_around(bits, row_around(pixel, frame.nib), frame, runs);
+        let row = row_around(pixel, frame.nib);
+        mark_around(bits, row, frame, shift, runs);
         marked = marked.wrapping_add(1);
     }
     marked
 }
 
-/// Marks what the nib's columns cover in a row, of which more may be known.
+/// Marks the columns of a row in its row of the mask. More may be known of them.
 #[inline(always)]
-fn mark_around(bits: &mut BitRows, row: WideRow, frame: MaskFrame, runs: Option<Runs>)
+fn mark_around(
+    bits: &mut BitRows,
+    row: WideRow,
+    frame: MaskFrame,
+    shift: Option<u32>,
+    runs: Option<Runs>,
+)
     requires frame { IsMaskFrame frame }
     requires size { HasRows frame bits.old }
     requires some { 1 ≤ height_of frame.region }
     requires first { first_row frame ≤ℤ row.y }
     requires last { row.y <ℤ row_at frame (row_count frame) }
+    requires shift { IfSome shift (IsShiftOf frame row.y) }
     requires run { IfSome runs (IsRunOf frame row) }
     ensures row { MarksRow frame row bits.old bits.new }
     ensures size { HasSize bits.new bits.old.rows bits.old.columns }
 {
     match runs {
         Some(runs) => mark_run(bits, row, frame, runs),
-        None => mark_row(bits, row, frame),
+        None => mark_columns(bits, row.columns, frame, own_row(row.y, frame, shift)),
     }
 }
 
@@ -179,21 +190,6 @@ fn row_around(pixel: Pixel, nib: Nib) -> WideRow
     }
 }
 
-/// Marks what the nib's columns cover in a row.
-#[inline(always)]
-fn mark_row(bits: &mut BitRows, row: WideRow, frame: MaskFrame)
-    requires frame { IsMaskFrame frame }
-    requires size { HasRows frame bits.old }
-    requires some { 1 ≤ height_of frame.region }
-    requires first { first_row frame ≤ℤ row.y }
-    requires last { row.y <ℤ row_at frame (row_count frame) }
-    ensures row { MarksRow frame row bits.old bits.new }
-    ensures size { HasSize bits.new bits.old.rows bits.old.columns }
-{
-    let place = (row.y - frame.first_row()) as u32;
-    mark_columns(bits, row.columns, frame, frame.mask_row(place));
-}
-
 /// Marks what the nib's columns cover in the rows of lines that share a row of the mask.
 pub(crate) fn mark_shared(bits: &mut BitRows, line: Line, frame: MaskFrame)
     requires frame { IsMaskFrame frame }
@@ -211,7 +207,7 @@ pub(crate) fn mark_shared(bits: &mut BitRows, line: Line, frame: MaskFrame)
     mark_columns(bits, shared.columns, frame, frame.height() - 1);
 }
 
-/// Marks columns of a surface in a row of the mask. Few columns that lie within the region are set at once.
+/// Marks columns of a surface in a row of the mask.
 #[inline(always)]
 fn mark_columns(bits: &mut BitRows, columns: Span, frame: MaskFrame, row: u32)
     requires frame { IsMaskFrame frame }
@@ -221,34 +217,30 @@ fn mark_columns(bits: &mut BitRows, columns: Span, frame: MaskFrame, row: u32)
     ensures size { HasSize bits.new bits.old.rows bits.old.columns }
 {
     let seen = frame.region.columns;
-    if is_narrow_part(columns, seen) {
-        bits.set_run(row, columns.from - seen.from, columns.to - columns.from);
-        return;
-    }
-    mark_part(bits, columns, frame, row);
+    let part = seen.between(i64::from(columns.from), i64::from(columns.to));
+    mark_seen(bits, part, frame, row);
 }
 
-/// The same for any columns. (Apart, this leaves the registers to the others.)
-#[inline(never)]
-fn mark_part(bits: &mut BitRows, columns: Span, frame: MaskFrame, row: u32)
+/// Marks columns of the region in a row of the mask. Few are set at once.
+#[inline(always)]
+fn mark_seen(bits: &mut BitRows, columns: Span, frame: MaskFrame, row: u32)
     requires frame { IsMaskFrame frame }
     requires size { HasRows frame bits.old }
     requires row { row < 2 * height_of frame.region }
+    requires part { IsPart columns frame.region.columns }
     ensures columns { MarksColumns frame columns row bits.old bits.new }
     ensures size { HasSize bits.new bits.old.rows bits.old.columns }
 {
-    let part = frame.columns_of(columns);
-    bits.set(row, part.from, part.to);
-}
-
-/// Whether there are 1 to 64 columns, all of them among others.
-fn is_narrow_part(columns: Span, others: Span) -> bool
-    ensures { IsTrue result → IsNarrowPart columns others }
-{
-    others.from <= columns.from
-        && columns.to <= others.to
-        && columns.from < columns.to
-        && columns.to - columns.from <= 64
+    let width = columns.to - columns.from;
+    if width == 0 {
+        return;
+    }
+    let from = columns.from - frame.region.columns.from;
+    if width <= 64 {
+        bits.set_run(row, from, width);
+    } else {
+        bits.set(row, from, from + width);
+    }
 }
 
 /// Joins to each of the first rows the rows after it, `depth` rows in all.

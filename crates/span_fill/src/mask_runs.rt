@@ -1,10 +1,10 @@
 //! Marking what a narrow nib covers around the pixels of a line, if all of that lies in the columns of a mask.
 
-ghost use Rattle.std.specs.Prelude.{◌+◌, ◌*◌, ◌<◌, ◌≤◌, ◌≡◌, ◌-ℤ◌, ◌≤ℤ◌, ◌<ℤ◌, IfSome, IsTrue, unsigned_abs};
+ghost use Rattle.std.specs.Prelude.{◌+◌, ◌*◌, ◌<◌, ◌≤◌, ◌≡◌, ◌-ℤ◌, ◌≤ℤ◌, ◌<ℤ◌, IfSome, IsTrue, Some, unsigned_abs};
 ghost use Rattle.span_fill.specs.BitRows.{HasSize};
 ghost use Rattle.span_fill.specs.MaskFrames.{IsMaskFrame, first_row, mask_row, row_at, row_count};
 ghost use Rattle.span_fill.specs.MaskMarks.{HasRows, MarksRow};
-ghost use Rattle.span_fill.specs.MaskRuns.{AreRunsOf, IsBehind, IsInside, IsRunOf};
+ghost use Rattle.span_fill.specs.MaskRuns.{AreRuns, IsBehind, IsInside, IsRunOf, IsShiftOf};
 ghost use Rattle.span_fill.specs.StrokeMasks.{height_of};
 
 use crate::bit_rows::BitRows;
@@ -21,18 +21,16 @@ pub(crate) const MOST_COLUMNS: u16 = 64;
 pub(crate) struct Runs {
     /// How many rows the mask's rows are behind the rows of lines.
     pub(crate) shift: u32,
-    /// The number of columns around each pixel.
+    /// The number of columns around each pixel, all of which lie in the region.
     pub(crate) width: u32,
 }
 
-/// What is known of a line in some rows of lines: `None` if the nib has more than 64 columns, if not all of them lie in
-/// the region around each end of the line, or if some but not all of these rows share a row of
-/// the mask.
-pub(crate) fn runs_of(line: Line, frame: MaskFrame, from: u32, count: u32) -> Option<Runs>
-    requires frame { IsMaskFrame frame }
-    requires some { 1 ≤ height_of frame.region }
-    requires rows { from + count ≤ row_count frame }
-    ensures { IfSome result (AreRunsOf frame line from count) }
+/// What is known of a line in rows of lines that are so many before the mask's: `None` if that isn't known, if the nib has
+/// more than 64 columns, or if not all of them lie in the region around each end of the line.
+pub(crate) fn runs_of(line: Line, frame: MaskFrame, shift: Option<u32>) -> Option<Runs>
+    requires { IsMaskFrame frame }
+    ensures runs { IfSome result (AreRuns frame line) }
+    ensures shift { IfSome result (λ runs. shift ≡ Some runs.shift) }
 {
     if frame.nib.x > MOST_COLUMNS
         || !is_inside(line.from.x, frame)
@@ -40,9 +38,11 @@ pub(crate) fn runs_of(line: Line, frame: MaskFrame, from: u32, count: u32) -> Op
     {
         return None;
     }
-    let shift = shift_of(frame, from, count)?;
     let width = u32::from(frame.nib.x);
-    Some(Runs { shift, width })
+    Some(Runs {
+        shift: shift?,
+        width,
+    })
 }
 
 /// Whether the nib's columns around a column lie in the region.
@@ -56,8 +56,9 @@ fn is_inside(x: i32, frame: MaskFrame) -> bool
     first <= x && x < end
 }
 
-/// How many rows the mask's rows for some rows of lines are behind these, if that is the same for all.
-fn shift_of(frame: MaskFrame, from: u32, count: u32) -> Option<u32>
+/// How many rows the mask's rows for some rows of lines are behind these: `None` if some but not all of them share a row of
+/// the mask.
+pub(crate) fn shift_of(frame: MaskFrame, from: u32, count: u32) -> Option<u32>
     requires frame { IsMaskFrame frame }
     requires some { 1 ≤ height_of frame.region }
     requires rows { from + count ≤ row_count frame }
@@ -73,7 +74,25 @@ fn shift_of(frame: MaskFrame, from: u32, count: u32) -> Option<u32>
     None
 }
 
-/// Marks what the nib's columns cover in a row.
+/// The row of the mask for a row of lines.
+#[inline(always)]
+pub(crate) fn own_row(row: i32, frame: MaskFrame, shift: Option<u32>) -> u32
+    requires frame { IsMaskFrame frame }
+    requires some { 1 ≤ height_of frame.region }
+    requires first { first_row frame ≤ℤ row }
+    requires last { row <ℤ row_at frame (row_count frame) }
+    requires shift { IfSome shift (IsShiftOf frame row) }
+    ensures row { result ≡ mask_row frame (unsigned_abs (row -ℤ first_row frame)) }
+    ensures within { result < 2 * height_of frame.region }
+{
+    let place = (row - frame.first_row()) as u32;
+    match shift {
+        Some(shift) => place - shift,
+        None => frame.mask_row(place),
+    }
+}
+
+/// Marks a run of columns in its row of the mask.
 #[inline(always)]
 pub(crate) fn mark_run(bits: &mut BitRows, row: WideRow, frame: MaskFrame, runs: Runs)
     requires frame { IsMaskFrame frame }
@@ -85,21 +104,7 @@ pub(crate) fn mark_run(bits: &mut BitRows, row: WideRow, frame: MaskFrame, runs:
     ensures row { MarksRow frame row bits.old bits.new }
     ensures size { HasSize bits.new bits.old.rows bits.old.columns }
 {
-    let place = own_row(row, frame, runs);
+    let own = own_row(row.y, frame, Some(runs.shift));
     let from = row.columns.from - frame.region.columns.from;
-    bits.set_run(place, from, runs.width);
-}
-
-/// The row of the mask for a row.
-#[inline(always)]
-fn own_row(row: WideRow, frame: MaskFrame, runs: Runs) -> u32
-    requires frame { IsMaskFrame frame }
-    requires some { 1 ≤ height_of frame.region }
-    requires first { first_row frame ≤ℤ row.y }
-    requires last { row.y <ℤ row_at frame (row_count frame) }
-    requires run { IsRunOf frame row runs }
-    ensures row { result ≡ mask_row frame (unsigned_abs (row.y -ℤ first_row frame)) }
-    ensures within { result < 2 * height_of frame.region }
-{
-    (row.y - frame.first_row()) as u32 - runs.shift
+    bits.set_run(own, from, runs.width);
 }

@@ -1,23 +1,9 @@
 //! Numbers limited to a range.
 
-ghost use Rattle.std.specs.Prelude.{◌≡◌, ◌<◌, ◌≤◌, ◌↔◌, ℕ, ℤ, pos, ◌≤ℤ◌, ◌<ℤ◌};
+ghost use Rattle.std.specs.Prelude.{◌≡◌, ◌↔◌, ℤ, ◌≤ℤ◌, ◌<ℤ◌};
 ghost use Rattle.std.specs.Int.{int_max, int_min};
 
 use crate::bounds::CoordinateRange;
-
-/// A coordinate as one of 8,192 columns, or the column after them.
-pub(crate) fn seen_from(coordinate: i64) -> u32
-    ensures exact { (n : ℕ) → n < 8192 → (result ≤ n ↔ (coordinate ≤ℤ pos n)) }
-    ensures within { result ≤ 8192 }
-{
-    if coordinate <= 0 {
-        0
-    } else if coordinate >= 8192 {
-        8192
-    } else {
-        coordinate as u32
-    }
-}
 
 /// A coordinate as a row of a range, or the end of the range.
 pub(crate) fn first_in(range: CoordinateRange, coordinate: i64) -> i32

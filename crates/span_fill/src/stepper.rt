@@ -1,6 +1,6 @@
 //! Where a line crosses a row, and moving to the next row by additions.
 
-ghost use Rattle.std.specs.Prelude.{◌≡◌, ◌^◌, pos, negsuc, ◌+ℤ◌, ◌*ℤ◌, ◌≤ℤ◌, ◌<ℤ◌};
+ghost use Rattle.std.specs.Prelude.{◌≡◌, ◌^◌, false, pos, negsuc, true, ◌+ℤ◌, ◌*ℤ◌, ◌≤ℤ◌, ◌<ℤ◌};
 ghost use Rattle.span_fill.specs.Steppers.{IsStepper, IsStepperIncrement};
 
 use crate::division::divide;
@@ -67,17 +67,23 @@ impl Stepper {
         requires { StepperCanMove step self }
         ensures { IsMovedStepper step self result }
     {
+        // (to choose each number, and not the way, costs no branch that is hard to predict)
         let sum = self.rest + step.more;
-        if sum < step.divisor {
-            Stepper {
-                column: self.column + step.across,
-                rest: sum,
-            }
-        } else {
-            Stepper {
-                column: self.column + step.across + 1,
-                rest: sum - step.divisor,
-            }
+        let is_carried = sum >= step.divisor;
+        Stepper {
+            column: self.column + step.across + carry_of(is_carried),
+            rest: if is_carried { sum - step.divisor } else { sum },
         }
     }
+}
+
+/// What a carried remainder adds.
+#[inline]
+fn carry_of(is_carried: bool) -> i64
+    ensures carried { is_carried ≡ true → result ≡ pos 1 }
+    ensures kept { is_carried ≡ false → result ≡ pos 0 }
+    ensures low { pos 0 ≤ℤ result }
+    ensures high { result ≤ℤ pos 1 }
+{
+    if is_carried { 1 } else { 0 }
 }

@@ -174,7 +174,8 @@ fn draw_wide_edge(edge: &mut WideEdge, parts: &mut Vec<Span>, nib: Nib, row: u32
     ensures length { vec_len parts.new ≡ vec_len parts.old + 1 }
     ensures capacity { vec_capacity parts.new ≡ vec_capacity parts.old }
 {
-    parts.push_reserved(edge.part(nib));
+    let surface = Span { from: 0, to: 8192 };
+    parts.push_reserved(edge.part(nib, surface));
     edge.move_on(nib, i64::from(row));
 }
 

@@ -7,13 +7,13 @@ ghost use Rattle.span_fill.specs.MajorLines.{IsMajorLine, length_of};
 ghost use Rattle.span_fill.specs.Steppers.{StepperCanMove, IsStepper, IsStepperIncrement, IsMovedStepper};
 ghost use Rattle.span_fill.specs.Lines.{HasNearEnds};
 ghost use Rattle.span_fill.specs.RowSlopes.{IsSmallRowSlope, total_of};
-ghost use Rattle.span_fill.specs.WideEdges.{IsAtRow, IsNearRow, LiesNear, high_over, low_over, part_high, part_low};
+ghost use Rattle.span_fill.specs.WideEdges.{IsAtRow, IsNearRow, LiesNear, crossing_of, high_over, low_over, part_high, part_low};
 ghost use Rattle.span_fill.specs.StrokeRows.{IsBegun, IsPast};
 
 use crate::axes::{major_along, runs_y_major};
 use crate::bounds::CoordinateRange;
 use crate::line::Line;
-use crate::reach::{greater, lesser, seen_from};
+use crate::reach::{greater, lesser};
 use crate::row_slope::RowSlope;
 use crate::span::Span;
 use crate::stepper::{Stepper, StepperIncrement};
@@ -105,25 +105,31 @@ impl WideEdge {
         }
     }
 
-    /// The columns that the nib covers in this row.
-    #[inline]
-    pub(crate) fn part(&self, nib: Nib) -> Span
+    /// Of some columns, those that the nib covers in this row.
+    #[inline(always)]
+    pub(crate) fn part(&self, nib: Nib, columns: Span) -> Span
         requires nib { IsNib nib }
         requires first { StepperCanMove self.now.step self.now.first }
         requires last { StepperCanMove self.now.step self.now.last }
-        ensures exact { (x : ℕ) → x < 8192 → (IsIn result x ↔ LiesNear nib (part_low self.now) (part_high self.now) (pos x)) }
-        ensures within { result.to ≤ 8192 }
+        requires order { columns.from ≤ columns.to }
+        ensures exact { (x : ℕ) → IsIn columns x → (IsIn result x ↔ LiesNear nib (part_low self.now) (part_high self.now) (pos x)) }
+        ensures first { columns.from ≤ result.from }
+        ensures order { result.from ≤ result.to }
+        ensures last { result.to ≤ columns.to }
     {
         let (low, high) = (self.low(), self.high());
         if low < high {
-            near(nib, low, high)
+            near(nib, low, high, columns)
         } else {
-            Span { from: 0, to: 0 }
+            Span {
+                from: columns.from,
+                to: columns.from,
+            }
         }
     }
 
     /// Moves to the next row. Each end of the rows that the nib reaches moves, unless it is the line's end.
-    #[inline]
+    #[inline(always)]
     pub(crate) fn move_on(&mut self, nib: Nib, row: i64)
         requires nib { IsNib nib }
         requires row { IsNearRow row }
@@ -135,6 +141,14 @@ impl WideEdge {
         ensures at { IsAtRow nib row self.old → IsNearRow (row +ℤ pos 1) → (row +ℤ pos 1 -ℤ pos (reach_after nib.y)) <ℤ self.old.rows.to
             → IsAtRow nib (row +ℤ pos 1) self.new }
     {
+        if nib.y == 1 {
+            // Such a nib reaches one row of the line, and both ends of it move. Where the line leaves a row is where it
+            // enters the next one.
+            let next = self.last.moved(self.step);
+            self.first = crossing_of(self.y_major, self.last, next);
+            self.last = next;
+            return;
+        }
         self.first = moved_if(self.first, self.step, self.leaves_first(nib, row));
         self.last = moved_if(self.last, self.step, self.is_before_last(nib, row));
     }
@@ -192,20 +206,31 @@ fn moved_if(stepper: Stepper, step: StepperIncrement, moves: bool) -> Stepper
     if moves { stepper.moved(step) } else { stepper }
 }
 
-/// The columns between two, with those that a nib covers on both sides.
+/// Where a line crosses a row of its own, if it ends the row before at the first crossing, and this row at the second.
 #[inline]
-fn near(nib: Nib, low: i64, high: i64) -> Span
+fn crossing_of(y_major: bool, before: Stepper, here: Stepper) -> Stepper
+    ensures { result ≡ crossing_of y_major before here }
+{
+    if y_major { here } else { before }
+}
+
+/// Of some columns, those between two numbers, with those that a nib covers on both sides.
+#[inline]
+fn near(nib: Nib, low: i64, high: i64, columns: Span) -> Span
     requires nib { IsNib nib }
     requires some { low <ℤ high }
     requires least { negsuc (2 ^ 31) ≤ℤ low }
     requires most { high ≤ℤ pos (2 ^ 31) }
-    ensures exact { (x : ℕ) → x < 8192 → (IsIn result x ↔ LiesNear nib low high (pos x)) }
-    ensures within { result.to ≤ 8192 }
+    requires order { columns.from ≤ columns.to }
+    ensures exact { (x : ℕ) → IsIn columns x → (IsIn result x ↔ LiesNear nib low high (pos x)) }
+    ensures first { columns.from ≤ result.from }
+    ensures order { result.from ≤ result.to }
+    ensures last { result.to ≤ columns.to }
 {
-    Span {
-        from: seen_from(low - i64::from(reach_before(nib.x))),
-        to: seen_from(high + i64::from(reach_after(nib.x))),
-    }
+    columns.between(
+        low - i64::from(reach_before(nib.x)),
+        high + i64::from(reach_after(nib.x)),
+    )
 }
 
 /// Where the columns of several rows begin.

@@ -1,9 +1,9 @@
 //! What a nib covers along one line, row by row.
 
-ghost use Rattle.std.specs.Prelude.{◌≡◌, pos, negsuc, ◌≤ℤ◌, ◌<ℤ◌};
+ghost use Rattle.std.specs.Prelude.{◌≡◌, pos, negsuc, ◌≤◌, ◌≤ℤ◌, ◌<ℤ◌};
 ghost use Rattle.mapping.specs.Nibs.{IsNib};
 ghost use Rattle.span_fill.specs.Lines.{HasNearEnds};
-ghost use Rattle.span_fill.specs.WideLines.{GivesRow, HasAllRows, TakesRow};
+ghost use Rattle.span_fill.specs.WideLines.{GivesRow, GivesRowAmong, HasAllRows, TakesRowAmong};
 
 use crate::bounds::CoordinateRange;
 use crate::line::Line;
@@ -48,6 +48,7 @@ impl Model for WideLine {
 impl WideLine {
     /// The rows from `from` to before `to` in which the nib covers something. They are limited to the rows from -4,096
     /// to 12,287: those of a surface, and those from which a nib reaches it.
+    #[inline(always)]
     pub fn new(line: Line, nib: Nib, from: i32, to: i32) -> WideLine
         requires near { HasNearEnds line }
         requires nib { IsNib nib }
@@ -73,23 +74,35 @@ impl WideLine {
     }
 
     /// The next row, or `None` after the last one.
+    #[inline]
     pub fn next(&mut self) -> Option<WideRow>
         ensures { GivesRow self.old result self.new }
+    {
+        self.next_among(Span { from: 0, to: 8192 })
+    }
+
+    /// The same, but of the row's columns only those among some columns.
+    #[inline(always)]
+    pub(crate) fn next_among(&mut self, columns: Span) -> Option<WideRow>
+        requires { columns.from ≤ columns.to }
+        ensures { GivesRowAmong columns self.old result self.new }
     {
         if self.next >= self.edge.seen.to {
             return None;
         }
-        Some(self.take())
+        Some(self.take(columns))
     }
 
-    /// The next row.
-    fn take(&mut self) -> WideRow
-        requires { self.old.next <ℤ self.old.end }
-        ensures { TakesRow self.old self.new result }
+    /// Of the next row, those among some columns.
+    #[inline(always)]
+    fn take(&mut self, columns: Span) -> WideRow
+        requires left { self.old.next <ℤ self.old.end }
+        requires order { columns.from ≤ columns.to }
+        ensures { TakesRowAmong columns self.old self.new result }
     {
         let row = WideRow {
             y: self.next,
-            columns: self.edge.part(self.nib),
+            columns: self.edge.part(self.nib, columns),
         };
         self.edge.move_on(self.nib, i64::from(self.next));
         self.next += 1;

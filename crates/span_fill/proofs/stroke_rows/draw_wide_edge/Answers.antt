@@ -11,7 +11,7 @@ pub returns-clause-parts : goal.returns-clause-parts
 returns-clause-parts c = λ x h.
     ap (λ l. in_spans l x) c.push_reserved.ensures.items
     ∙ in_spans_more c.args.parts.now.items c.part.result x
-    ∙ ap (λ t. in_spans c.args.parts.now.items x || t) (part_test c.args.nib (pos c.args.row) (pos 8192) c.args.edge.now c.part.result c.requires.nib c.requires.active c.part.ensures.exact x h)
+    ∙ ap (λ t. in_spans c.args.parts.now.items x || t) (part_test c.args.nib (pos c.args.row) (pos 8192) c.args.edge.now c.part.result x c.requires.nib c.requires.active (c.part.ensures.exact x (omega arith, h)))
 
 pub returns-clause-passed : goal.returns-clause-passed
 returns-clause-passed c =

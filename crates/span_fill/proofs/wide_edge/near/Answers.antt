@@ -6,7 +6,7 @@ use Rattle.span_fill.proofs.WideEdgeWindows.{apart_fits, outside_fits, seen_near
 use Rattle.span_fill.proofs.wide_edge.near.Goals as goal
 
 pub returns-clause-exact : goal.returns-clause-exact
-returns-clause-exact c = λ x small.
+returns-clause-exact c = λ x inside.
     let low = c.ranges.low in
     let high = c.ranges.high in
     let a : FitsSigned w64 c.from.result = search rules in
@@ -24,6 +24,5 @@ returns-clause-exact c = λ x small.
     let few_after = c.reach_after.ensures.few in
     let apart = apart_fits c.args.low c.from.result least (omega (arith, ints, some, most)) (omega (arith, ints, before)) (omega (arith, ints, before_is, few)) in
     let beside = outside_fits c.args.high c.from-2.result (omega (arith, ints, some, least)) most (omega (arith, ints, after)) (omega (arith, ints, after_is, few_after)) in
-    let from = simp to_z-of_z at (c.seen_from.ensures.exact x small) in
-    let to = simp to_z-of_z at (c.seen_from-2.ensures.exact x small) in
-    seen_near c.args.nib c.args.low c.args.high _ x some (rw before at from) (rw after at to)
+    let there = simp to_z-of_z at (c.between.ensures.numbers x) in
+    seen_near c.args.nib c.args.low c.args.high c.args.columns _ x some (rw (before, after) at there) inside

@@ -7,15 +7,15 @@ use Rattle.span_fill.proofs.wide_line.WideLine.take.Goals as goal
 
 pub part-requires-clause-first : goal.part-requires-clause-first
 part-requires-clause-first c =
-    let more = rw (← c.self.view_is) at c.requires in (active_now c.self.inside c.self.invariant more).at.first_moves
+    let more = rw (← c.self.view_is) at c.requires.left in (active_now c.self.inside c.self.invariant more).at.first_moves
 
 pub part-requires-clause-last : goal.part-requires-clause-last
 part-requires-clause-last c =
-    let more = rw (← c.self.view_is) at c.requires in (active_now c.self.inside c.self.invariant more).at.last_moves
+    let more = rw (← c.self.view_is) at c.requires.left in (active_now c.self.inside c.self.invariant more).at.last_moves
 
 pub move_on-requires-clause-row : goal.move_on-requires-clause-row
 move_on-requires-clause-row c =
-    let more = rw (← c.self.view_is) at c.requires in
+    let more = rw (← c.self.view_is) at c.requires.left in
     let next : FitsSigned w32 c.self.inside.next = search rules in
     let from : FitsSigned w64 c.from.result = search rules in
     let is = simp to_z-of_z at c.from.ensures in
@@ -23,21 +23,21 @@ move_on-requires-clause-row c =
 
 pub move_on-requires-clause-first : goal.move_on-requires-clause-first
 move_on-requires-clause-first c =
-    let more = rw (← c.self.view_is) at c.requires in (active_now c.self.inside c.self.invariant more).at.first_moves
+    let more = rw (← c.self.view_is) at c.requires.left in (active_now c.self.inside c.self.invariant more).at.first_moves
 
 pub move_on-requires-clause-last : goal.move_on-requires-clause-last
 move_on-requires-clause-last c =
-    let more = rw (← c.self.view_is) at c.requires in (active_now c.self.inside c.self.invariant more).at.last_moves
+    let more = rw (← c.self.view_is) at c.requires.left in (active_now c.self.inside c.self.invariant more).at.last_moves
 
 pub overflow_add-self : goal.overflow_add-self
 overflow_add-self c =
-    let more = rw (← c.self.view_is) at c.requires in
+    let more = rw (← c.self.view_is) at c.requires.left in
     let next : FitsSigned w32 c.self.inside.next = search rules in
     simp to_z-of_z (next_fits c.self.inside c.self.invariant more)
 
 pub invariant_of-self : goal.invariant_of-self
 invariant_of-self c =
-    let more = rw (← c.self.view_is) at c.requires in
+    let more = rw (← c.self.view_is) at c.requires.left in
     let next : FitsSigned w32 c.self.inside.next = search rules in
     let after : FitsSigned w32 (c.self.inside.next +ℤ pos 1) = next_fits c.self.inside c.self.invariant more in
     let from : FitsSigned w64 c.from.result = search rules in
@@ -48,7 +48,7 @@ invariant_of-self c =
 
 pub returns : goal.returns
 returns c =
-    let more = rw (← c.self.view_is) at c.requires in
+    let more = rw (← c.self.view_is) at c.requires.left in
     let next : FitsSigned w32 c.self.inside.next = search rules in
     let after : FitsSigned w32 (c.self.inside.next +ℤ pos 1) = next_fits c.self.inside c.self.invariant more in
-    rw (← c.self.view_is) (simp to_z-of_z (line_taken c.self.inside c.move_on.new.self c.part.result c.self.invariant more c.move_on.ensures.line c.move_on.ensures.seen c.part.ensures.exact c.part.ensures.within))
+    rw (← c.self.view_is) (simp to_z-of_z (line_taken c.self.inside c.move_on.new.self c.args.columns c.part.result c.self.invariant more c.move_on.ensures.line c.move_on.ensures.seen c.part.ensures.exact c.part.ensures.first c.part.ensures.order c.part.ensures.last))

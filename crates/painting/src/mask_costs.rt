@@ -11,10 +11,10 @@ use span_fill::{Line, Outline, Region, Span};
 const STEPS_A_ROW: usize = 4;
 
 /// To clear and read so many pixels of a stroke mask takes no longer than a line's spans in one row.
-const PIXELS_A_ROW: usize = 32;
+const MASK_PIXELS_A_ROW: usize = 32;
 
 /// The same where the clip cuts boxes out, since spans take longer there.
-const PIXELS_A_CUT_ROW: usize = 256;
+const MASK_PIXELS_A_CUT_ROW: usize = 256;
 
 /// For a line with fewer columns and rows than this, both methods cost about the same.
 const SHORT: u32 = 16;
@@ -82,9 +82,9 @@ pub(crate) fn stroke_mask_pays(shares: Shares, drawn: Region, clip: &Clip) -> bo
         return shares.rows > pixels(drawn);
     }
     if clip.cut_boxes().is_empty() {
-        return shares.rows > pixels(drawn) / PIXELS_A_ROW;
+        return shares.rows > pixels(drawn) / MASK_PIXELS_A_ROW;
     }
-    shares.rows > pixels(drawn) / PIXELS_A_CUT_ROW
+    shares.rows > pixels(drawn) / MASK_PIXELS_A_CUT_ROW
 }
 
 /// The shares of an outline's long lines in a box. All lines are examined, so the result doesn't depend on their order.
