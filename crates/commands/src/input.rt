@@ -15,9 +15,9 @@ use thiserror::Error;
 /// The longest input, in bytes.
 const INPUT_LIMIT: usize = 268435456;
 
-/// The number of bytes to ask for in one read. Their array is on the stack, and is larger than all that a command puts
-/// there later, when memory may be full and the stack can't grow.
-const PIECE: usize = 262144;
+/// The number of bytes to ask for in one read. Their array is on the stack. With it a command takes less than the 128 KiB
+/// of a stack that Linux gives every program when it starts, so no stack has to grow when memory is full.
+const PIECE: usize = 65536;
 
 /// Why an input wasn't read.
 #[derive(Clone, Copy, Debug, PartialEq, Eq, Error)]
