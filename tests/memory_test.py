@@ -40,6 +40,9 @@ TABLED, TABLE = 4096, 2 * MIB + MIB // 16
 # How many lines make these lists long.
 LONG = 1 << 17
 
+# How much of a stack Linux gives every program when it starts: a larger one has to grow, which it can't where memory is full.
+FIRST_STACK = MIB // 8
+
 OUT_OF_MEMORY = Answer(4, b"", b"metaplay: OutOfMemory\n")
 
 SHOW = ["show", "stdin", str(SIDE), str(SIDE)]
@@ -299,6 +302,7 @@ class Stack(unittest.TestCase):
 
     def test_each_command_runs_with_little_of_a_stack(self):
         enough, less = (int(number) << 10 for number in re.search(r"took less than (\d+) KiB\. With (\d+) KiB", " ".join(README.split())).groups())
+        self.assertLessEqual(enough, FIRST_STACK)
         with tempfile.TemporaryDirectory() as folder:
             certificate, image, made = (pathlib.Path(folder, name) for name in ("certificate", "image", "made"))
             for file in sorted(it for it in SAMPLES.iterdir() if it.suffix in (".wmf", ".emf") and it.stem != "held"):
