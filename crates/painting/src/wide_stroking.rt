@@ -59,11 +59,11 @@ pub(crate) fn stroke_wide_lines<O: Outline + Copy>(
         mix_wide_line(canvas, line, stroke.nib, drawn, stroke.mix);
         return;
     }
-    // (as many lines as points, or a few less)
-    let count = lines.points as usize;
+    // (there are as many lines as points, or a few less)
+    let most = lines.points as usize;
     if let Some(mask) = &mut scratch.mask {
-        if !are_few(count, drawn) && is_one_part(mask, drawn) {
-            let part = reached_of(outline, count, stroke.nib, drawn);
+        if !are_few(most, drawn) && is_one_part(mask, drawn) {
+            let part = reached_of(outline, most, stroke.nib, drawn);
             stroke_by_mask(canvas, mask, outline, part, stroke);
             return;
         }

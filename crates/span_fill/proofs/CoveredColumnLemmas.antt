@@ -9,7 +9,7 @@ use Rattle.span_fill.specs.MaskFrames.{row_at}
 use Rattle.span_fill.specs.Spans.{in_span}
 use Rattle.span_fill.specs.StrokeMasks.{height_of}
 use Rattle.span_fill.specs.Strokes.{on_line}
-use Rattle.span_fill.specs.WideLines.{HasAllRows, TakesRow, WideLineState}
+use Rattle.span_fill.specs.WideLines.{HasAllRows, TakesRowAmong, WideLineState, all_columns}
 use Rattle.span_fill.specs.WideStrokes.{on_wide_line, row_of}
 use Rattle.span_fill.specs.declared.line.Line.{Line}
 use Rattle.span_fill.specs.declared.mask_frame.MaskFrame.{MaskFrame}
@@ -98,14 +98,14 @@ tall_covers frame line from count x is test =
 -- so its columns in that row have them
 pub tall_reported :
     (frame : MaskFrame) (line : Line) (w new : WideLineState) (row : WideRow) (from count x : ℕ) → IsNib (tall_nib frame count) → HasAllRows (tall_row frame from count) (tall_row frame from count +ℤ pos 1) w
-    → TakesRow w new row → w.line ≡ line → w.nib ≡ tall_nib frame count → x + frame.region.columns.from < 8192 → is_in_rows frame line from count x ≡ true
+    → TakesRowAmong all_columns w new row → w.line ≡ line → w.nib ≡ tall_nib frame count → x + frame.region.columns.from < 8192 → is_in_rows frame line from count x ≡ true
     → in_span row.columns (x + frame.region.columns.from) ≡ true
 tall_reported frame line w new row from count x is all takes line_is nib_is wide test =
     let first = all.first in
     let end = all.last in
     let left = takes.left in
     let next : w.next ≡ tall_row frame from count = omega (arith, ints, first, end, left) in
-    columns_reported w row line (tall_nib frame count) (x + frame.region.columns.from) (tall_row frame from count) (takes.columns (x + frame.region.columns.from) wide) line_is nib_is next ∙ tall_covers frame line from count x is test
+    columns_reported w row line (tall_nib frame count) (x + frame.region.columns.from) (tall_row frame from count) (takes.exact (x + frame.region.columns.from) (omega arith, wide)) line_is nib_is next ∙ tall_covers frame line from count x is test
 
 -- and where it has no row there is nothing
 pub tall_nothing :

@@ -8,7 +8,7 @@ use Rattle.mapping.specs.TestLaws.{same_test}
 use Rattle.span_fill.specs.MaskFrames.{marks, marks_at, marks_in, mask_row, row_at, row_count, shared_nib, shared_row, spare_of}
 use Rattle.span_fill.specs.Spans.{in_span}
 use Rattle.span_fill.specs.StrokeMasks.{height_of}
-use Rattle.span_fill.specs.WideLines.{HasAllRows, TakesRow, WideLineState}
+use Rattle.span_fill.specs.WideLines.{HasAllRows, TakesRowAmong, WideLineState, all_columns}
 use Rattle.span_fill.specs.WideStrokes.{any_below, covers_by_rows, on_wide_line, row_of}
 use Rattle.span_fill.specs.declared.line.Line.{Line}
 use Rattle.span_fill.specs.declared.mask_frame.MaskFrame.{MaskFrame}
@@ -62,7 +62,7 @@ shared_marks frame line x i is some =
 -- the shared row, where the nib covers something there
 pub shared_set :
     (frame : MaskFrame) (line : Line) (w new : WideLineState) (row : WideRow) {bit : Bool} (old : Bool) (place x i : ℕ) → IsNib (shared_nib frame) → 1 ≤ height_of frame.region
-    → HasAllRows (shared_row frame) (shared_row frame +ℤ pos 1) w → TakesRow w new row → w.line ≡ line → w.nib ≡ shared_nib frame → x + frame.region.columns.from < 8192
+    → HasAllRows (shared_row frame) (shared_row frame +ℤ pos 1) w → TakesRowAmong all_columns w new row → w.line ≡ line → w.nib ≡ shared_nib frame → x + frame.region.columns.from < 8192
     → place ≡ height_of frame.region - 1 → bit ≡ (old || (nat_eq i place && in_span row.columns (x + frame.region.columns.from)))
     → bit ≡ (old || marks_in frame line (height_of frame.region - 1) (spare_of frame + 1) x i)
 shared_set frame line w new row {bit} old place x i is some all takes line_is nib_is wide last set =
@@ -72,7 +72,7 @@ shared_set frame line w new row {bit} old place x i is some all takes line_is ni
     let next : w.next ≡ shared_row frame = omega (arith, ints, first, end, left) in
     set
     ∙ ap (λ (q : ℕ). old || (nat_eq i q && in_span row.columns (x + frame.region.columns.from))) last
-    ∙ ap (λ (b : Bool). old || (nat_eq i (height_of frame.region - 1) && b)) (columns_reported w row line (shared_nib frame) (x + frame.region.columns.from) (shared_row frame) (takes.columns (x + frame.region.columns.from) wide) line_is nib_is next)
+    ∙ ap (λ (b : Bool). old || (nat_eq i (height_of frame.region - 1) && b)) (columns_reported w row line (shared_nib frame) (x + frame.region.columns.from) (shared_row frame) (takes.exact (x + frame.region.columns.from) (omega arith, wide)) line_is nib_is next)
     ∙ ap (λ (b : Bool). old || b) (shared_marks frame line x i is some)
 
 -- and where it covers nothing

@@ -1,6 +1,6 @@
 -- One line's strip from row to row.
-use Rattle.std.proofs.Common.{◌≡◌, ℕ, ◌<◌, ◌≤◌, ℤ, pos, negsuc, ◌+ℤ◌, ◌-ℤ◌, ◌≤ℤ◌, ◌<ℤ◌, true, arith, refl, ap, subst, sym, ◌∙◌}
-use Rattle.std.specs.Prelude.{FitsSigned, ◌↔◌, Option, Some, None}
+use Rattle.std.proofs.Common.{◌≡◌, ℕ, ◌≤◌, ℤ, pos, negsuc, ◌+ℤ◌, ◌-ℤ◌, ◌≤ℤ◌, ◌<ℤ◌, true, arith, refl, ap, subst, sym, ◌∙◌}
+use Rattle.std.specs.Prelude.{FitsSigned, ◌↔◌}
 use Rattle.std.specs.Int.{w32}
 use Rattle.std.proofs.lemmas.Int.{fits_signed_from_abs, ints}
 use Rattle.std.proofs.lemmas.Bool.{true≢false}
@@ -10,14 +10,13 @@ use Rattle.span_fill.specs.Clips.{IsIn}
 use Rattle.span_fill.specs.StrokeRows.{HasSeen, IsActive, IsBegun, IsPassed, IsPast}
 use Rattle.span_fill.specs.WideEdges.{IsAtRow, IsNearRow, LiesNear, part_high, part_low}
 use Rattle.span_fill.specs.WideLineInside.{IsWideLine}
-use Rattle.span_fill.specs.WideLines.{GivesRow, GivesRowAmong, HasAllRows, TakesRowAmong, WideLineState}
+use Rattle.span_fill.specs.WideLines.{HasAllRows, TakesRowAmong}
 use Rattle.span_fill.specs.WideStrokes.{on_wide_line}
 use Rattle.span_fill.specs.declared.bounds.CoordinateRange.{CoordinateRange}
 use Rattle.span_fill.specs.declared.line.Line.{Line}
 use Rattle.span_fill.specs.declared.span.Span.{Span}
 use Rattle.span_fill.specs.declared.wide_edge.WideEdge.{WideEdge}
 use Rattle.span_fill.specs.declared.wide_line.WideLine.TheInside.{Inside}
-use Rattle.span_fill.specs.declared.wide_line.WideRow.{WideRow}
 use Rattle.span_fill.proofs.WideEdgeSeen.{active_passed, passed_active, reaches_next}
 use Rattle.span_fill.proofs.StrokeLemmas.{part_exact}
 
@@ -131,18 +130,4 @@ line_taken a new seen columns is more line rows part first order last = record {
   nib = refl;
   next = refl;
   end = ap (λ (r : CoordinateRange). r.to) rows;
-}
-
--- the same of all columns
-pub given_of_all : (old new : WideLineState) (given : Option WideRow) → GivesRowAmong (record { from = 0; to = 8192 }) old given new → GivesRow old given new
-given_of_all old new None ended = ended
-given_of_all old new (Some row) takes = record {
-  left = takes.left;
-  row = takes.row;
-  columns = λ x wide. takes.exact x (omega arith, wide);
-  within = takes.last;
-  line = takes.line;
-  nib = takes.nib;
-  next = takes.next;
-  end = takes.end;
 }

@@ -1,5 +1,5 @@
 -- What a nib covers along one line, row by row.
-use Rattle.std.specs.Prelude.{◌≡◌, ℕ, ◌<◌, ◌≤◌, ◌↔◌, ℤ, pos, ◌+ℤ◌, ◌≤ℤ◌, ◌<ℤ◌, true, IsTrue, Option, Some, None}
+use Rattle.std.specs.Prelude.{◌≡◌, ℕ, ◌≤◌, ◌↔◌, ℤ, pos, ◌+ℤ◌, ◌≤ℤ◌, ◌<ℤ◌, true, IsTrue, Option, Some, None}
 use Rattle.mapping.specs.declared.nib.Nib.{Nib}
 use Rattle.span_fill.specs.Clips.{IsIn}
 use Rattle.span_fill.specs.WideStrokes.{on_wide_line}
@@ -20,18 +20,11 @@ pub record HasAllRows (from to : ℤ) (w : WideLineState) : Type 0 where
   pub last : w.end ≤ℤ to
   pub all : (x y : ℤ) → from ≤ℤ y → y <ℤ to → on_wide_line w.nib w.line x y ≡ true → (w.next ≤ℤ y) × (y <ℤ w.end)
 
--- the next row is returned, with the columns that the nib covers there
-pub record TakesRow (old new : WideLineState) (given : WideRow) : Type 0 where
-  pub left : old.next <ℤ old.end
-  pub row : given.y ≡ old.next
-  pub columns : (x : ℕ) → x < 8192 → IsIn given.columns x ↔ IsTrue (on_wide_line old.nib old.line (pos x) old.next)
-  pub within : given.columns.to ≤ 8192
-  pub line : new.line ≡ old.line
-  pub nib : new.nib ≡ old.nib
-  pub next : new.next ≡ old.next +ℤ pos 1
-  pub end : new.end ≡ old.end
+-- all columns of the largest surface
+abbrev pub all_columns : Span
+all_columns = record { from = 0; to = 8192 }
 
--- the next row is returned, with those among some columns that the nib covers there
+-- the next row is returned, with those among some columns that the nib covers there, and the rows behind it remain
 pub record TakesRowAmong (columns : Span) (old new : WideLineState) (given : WideRow) : Type 0 where
   pub left : old.next <ℤ old.end
   pub row : given.y ≡ old.next
@@ -44,12 +37,7 @@ pub record TakesRowAmong (columns : Span) (old new : WideLineState) (given : Wid
   pub next : new.next ≡ old.next +ℤ pos 1
   pub end : new.end ≡ old.end
 
--- the next row is returned, or nothing after the last one
-abbrev pub GivesRow : WideLineState → Option WideRow → WideLineState → Type 0
-GivesRow old None new = (old.end ≤ℤ old.next) × (new ≡ old)
-GivesRow old (Some row) new = TakesRow old new row
-
--- the same, of some columns
+-- the next row is returned with those among some columns, or nothing after the last one
 abbrev pub GivesRowAmong : Span → WideLineState → Option WideRow → WideLineState → Type 0
 GivesRowAmong columns old None new = (old.end ≤ℤ old.next) × (new ≡ old)
 GivesRowAmong columns old (Some row) new = TakesRowAmong columns old new row

@@ -19,14 +19,15 @@ pub(crate) const MOST_COLUMNS: u16 = 64;
 /// What is known before the first pixel of a line, so that each pixel costs little.
 #[derive(Clone, Copy, Debug)]
 pub(crate) struct Runs {
-    /// How many rows the mask's rows are behind the rows of lines.
+    /// How many rows each row of a line lies before the mask's row.
     pub(crate) shift: u32,
     /// The number of columns around each pixel, all of which lie in the region.
     pub(crate) width: u32,
 }
 
-/// What is known of a line in rows of lines that are so many before the mask's: `None` if that isn't known, if the nib has
-/// more than 64 columns, or if not all of them lie in the region around each end of the line.
+/// What is known of a line before its first pixel, if each row of it lies `shift` rows before the mask's row. `None` if there
+/// is no such number, if the nib has more than 64 columns, or if some of them around an end of the line lie outside the
+/// region.
 pub(crate) fn runs_of(line: Line, frame: MaskFrame, shift: Option<u32>) -> Option<Runs>
     requires { IsMaskFrame frame }
     ensures runs { IfSome result (AreRuns frame line) }

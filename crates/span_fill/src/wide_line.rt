@@ -3,7 +3,7 @@
 ghost use Rattle.std.specs.Prelude.{◌≡◌, pos, negsuc, ◌≤◌, ◌≤ℤ◌, ◌<ℤ◌};
 ghost use Rattle.mapping.specs.Nibs.{IsNib};
 ghost use Rattle.span_fill.specs.Lines.{HasNearEnds};
-ghost use Rattle.span_fill.specs.WideLines.{GivesRow, GivesRowAmong, HasAllRows, TakesRowAmong};
+ghost use Rattle.span_fill.specs.WideLines.{GivesRowAmong, HasAllRows, TakesRowAmong, all_columns};
 
 use crate::bounds::CoordinateRange;
 use crate::line::Line;
@@ -76,12 +76,12 @@ impl WideLine {
     /// The next row, or `None` after the last one.
     #[inline]
     pub fn next(&mut self) -> Option<WideRow>
-        ensures { GivesRow self.old result self.new }
+        ensures { GivesRowAmong all_columns self.old result self.new }
     {
         self.next_among(Span { from: 0, to: 8192 })
     }
 
-    /// The same, but of the row's columns only those among some columns.
+    /// The next row, or `None` after the last one: of its columns those among some columns.
     #[inline(always)]
     pub(crate) fn next_among(&mut self, columns: Span) -> Option<WideRow>
         requires { columns.from ≤ columns.to }

@@ -5,7 +5,7 @@ use Rattle.std.proofs.lemmas.Int.{fits_signed_from_abs, ints, to_z-of_z}
 use Rattle.mapping.specs.Nibs.{IsNib}
 use Rattle.span_fill.specs.BitRows.{has_bit}
 use Rattle.span_fill.specs.MaskFrames.{shared_nib, shared_row}
-use Rattle.span_fill.specs.WideLines.{HasAllRows, TakesRow}
+use Rattle.span_fill.specs.WideLines.{HasAllRows, TakesRowAmong, all_columns}
 use Rattle.span_fill.proofs.SharedRowLemmas.{shared_nothing, shared_set}
 use Rattle.span_fill.proofs.mask_marks.mark_shared.Goals as goal
 
@@ -30,7 +30,7 @@ returns-clause-rows c = λ x i wide high.
     let given = simp to_z-of_z at c.new-rows.ensures.all in
     let all : HasAllRows (shared_row c.args.frame) (shared_row c.args.frame +ℤ pos 1) c.new-rows.result = rw (← c.shared_row-row.ensures.row) given in
     let nib : IsNib (shared_nib c.args.frame) = subst IsNib c.shared_nib.ensures.nib c.shared_nib.ensures.is_nib in
-    let takes : TakesRow c.new-rows.result c.next.new.self c.in-Some.shared = c.in-Some.ensures in
+    let takes : TakesRowAmong all_columns c.new-rows.result c.next.new.self c.in-Some.shared = c.in-Some.ensures in
     let region = c.requires.frame.region in
     let height = c.height.ensures.height in
     shared_set c.args.frame c.args.line c.new-rows.result c.next.new.self c.in-Some.shared (has_bit c.args.bits.now x i) (c.height.result - 1) x i nib c.requires.some all takes c.new-rows.ensures.line
