@@ -2,4 +2,4 @@
 
 /// The line that `--version` writes: the version, and the checksum of all sources but this one.
 pub(crate) const VERSION: &str =
-    "metaplay 1.1.0 (sources a5ac7a934afcb3e8187c1ca9efadfccb99b0d599b99867655cf50d4218ed7ae8)\n";
+    "metaplay 1.1.0 (sources eccc3c67921e4d0a402dc48ef8ac3e3dd8d92930a575d99a76a444ba3c8998e6)\n";
