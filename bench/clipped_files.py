@@ -104,14 +104,3 @@ FILES = {
     "1,000 small rectangles in bands, 8,192 by 512": small_rectangles_in_bands,
     "1,000 small blits in bands, 8,192 by 512": small_blits_in_bands,
 }
-
-# What is to show in these is a small part of their work.
-CLOSE = dict.fromkeys(
-    [
-        "200 hatched rectangles in a kept box, 8,192 by 64",
-        "200 hatched polygons in a kept box, 8,192 by 64",
-        "a wide outline in a kept box, nib 9 by 9",
-        "1,000 small blits in bands, 8,192 by 512",
-    ],
-    1.15,
-)

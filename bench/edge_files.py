@@ -89,14 +89,3 @@ FILES = {
     "a path of 60 lists in 40 bands": long_path_in_bands,
     "300 rectangles of one row in 40 bands": boxes_in_bands,
 }
-
-# What is to show in these is a small part of their work.
-CLOSE = dict.fromkeys(
-    [
-        "a comb of 250 doubled needles, 2,048 by 64",
-        "3,900 edges that begin and end in each row, 64 by 700",
-        "800 lists of one point in 40 bands",
-        "300 rectangles of one row in 40 bands",
-    ],
-    1.1,
-)

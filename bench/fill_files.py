@@ -217,15 +217,3 @@ FILES = {
     "400 triangles behind a polygon of 5,000 edges, 64 by 64": triangles_behind_a_large_polygon,
     "100 polygons of 198 edges from the last row on, 64 by 4": edges_from_the_last_row,
 }
-
-# What is to show in these is a part of their work.
-CLOSE = dict.fromkeys(
-    [
-        "1,200 upright teeth, 1,100 by 200",
-        "1,200 upright teeth, 1,100 by 200, by windings",
-        "60 high polygons of two edges, by windings",
-        "2,400 short steep lines, nib 40 by 40",
-        "2,400 short steep lines, nib 3 by 3",
-    ],
-    1.1,
-)

@@ -171,6 +171,3 @@ FILES = {
     "40 blits of bitmaps of 8,192 rows": high_bitmaps,
     "10 hatches that invert, 512 by 512": inverting_hatches,
 }
-
-# What is to show in these is a part of their work.
-CLOSE = dict.fromkeys(["nothing, 1,024 by 1,024", "nothing, 2 by 8,192", "nothing, 48 by 8,192"], 1.1)

@@ -15,6 +15,8 @@ import edge_files
 import fill_files
 import image_files
 import instruction_files
+import large_files
+import mixed_files
 import paint_files
 import pixel_files
 import record_files
@@ -41,22 +43,19 @@ MODULES = [
     pixel_files,
     edge_files,
     choice_files,
+    large_files,
 ]
 
-# The files whose instructions are counted under both profiles, and those of them with a limit of their own.
+# The files whose instructions are counted under both profiles.
 BOTH = {name: made for module in MODULES for name, made in module.FILES.items()}
-CLOSE_BOTH = {name: most for module in MODULES for name, most in getattr(module, "CLOSE", {}).items()}
 
-# Each file under the core profile and under the print profile, and those whose work is in parts of a unit.
-FILES = BOTH | {named_print(name): under_print(made) for name, made in BOTH.items()} | PARTS
-
-# How many times the instructions on record a file may take at most, where that is less than for others.
-CLOSE = CLOSE_BOTH | {named_print(name): most for name, most in CLOSE_BOTH.items()} | dict.fromkeys(PARTS, 1.1)
+# Each of these under the core profile and under the print profile, those whose work is in parts of a unit, and drawings by chance.
+FILES = BOTH | {named_print(name): under_print(made) for name, made in BOTH.items()} | PARTS | mixed_files.FILES
 
 RECORD = ROOT / "bench" / "instructions.json"
 
-# How many times the instructions on record a file may take at most.
-MOST = 1.2
+# How many times the instructions on record a file may take at most; and one of drawings by chance, of which each is a small part of the work.
+MOST, MOST_MIXED = 1.02, 1.005
 
 
 class Uncounted(Exception):
@@ -105,9 +104,9 @@ def write_record(program, path=RECORD):
 
 def is_within(taken, recorded, most=MOST):
     """Whether a count is at most so many times the one on record."""
-    return 100 * taken <= round(100 * most) * recorded
+    return 1000 * taken <= round(1000 * most) * recorded
 
 
 def most_of(name):
     """How many times the instructions on record a file may take at most."""
-    return CLOSE.get(name, MOST)
+    return MOST_MIXED if name in mixed_files.FILES else MOST

@@ -9,7 +9,8 @@ from writers import BETWEEN, EMF, MASKED, PATCOPY, PATINVERT, SRCCOPY, WMF, Bitm
 
 class Counted(NamedTuple):
     """A file, the surface that it is shown on, or another command that it is given to, the options for its rules, the status that is wanted, the
-    image that it is played over, the rows of a band where a play is asked for these, and the file that its certificate is of where that's another."""
+    image that it is played over, the rows of a band where a play is asked for these, the file that its certificate is of where that's another, and how
+    many files that aren't there are named too."""
 
     given: bytes
     width: int
@@ -20,6 +21,7 @@ class Counted(NamedTuple):
     image: bytes = b""
     bands: int = 0
     certified: bytes = b""
+    missing: int = 0
 
     def sides(self):
         """The words for its surface."""
@@ -33,7 +35,7 @@ class Counted(NamedTuple):
         """The words of the command that is counted, on a file named `file`."""
         bands = ["--bands", str(self.bands)] if self.bands else []
         certified = {"check": ["file", "certificate"], "play": ["file", "certificate", *self.sides(), *bands], "over": ["file", "certificate", "image"]}
-        plain = {"show": ["file", *self.sides()], "list": ["file"], "info": ["file"]}
+        plain = {"show": ["file", *self.sides()], "list": ["file"], "info": ["file", *["missing"] * self.missing]}
         return [self.command, *(certified.get(self.command) or [*plain[self.command], *self.options])]
 
 
@@ -673,24 +675,3 @@ FILES = {
     "6,000 high polygons of two columns, 8,192 by 64": narrow_polygons,
     "20 strokes beside a narrow surface, 16 by 64": strokes_beside_a_narrow_surface,
 }
-
-# How many times the instructions on record a file may take, where that is less than for others: what it is to show is a part of its work.
-CLOSE = dict.fromkeys(
-    [
-        "3,000 small tiled rectangles, 8,192 by 64",
-        "bitmaps of few rows stretched, 1,024 by 1,024",
-        "100,000 points on a map that scales, 64 by 64",
-        "each record 500 times in a state that is full",
-        "84,000 short records of a plain file",
-        "6,000 polylines of two points, 1,024 by 1,024",
-        "each sort of paint, 8,192 by 48",
-        "a bitmap of 1,500 rows stretched",
-        "240 lone lines under wide pens, 512 by 512",
-        "620 polylines under wide pens, 512 by 512",
-        "21,000 lines under large nibs, 512 by 512",
-        "100 wide strokes in bands, 8,192 by 2,048",
-        "6,000 high polygons of two columns, 8,192 by 64",
-        "20 strokes beside a narrow surface, 16 by 64",
-    ],
-    1.15,
-) | dict.fromkeys(["12,000 lists of two to five points, 64 by 8,192", "10 tall drawings in bands, 8,192 by 2,048"], 1.1)

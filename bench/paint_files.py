@@ -260,18 +260,3 @@ FILES = {
     "20 tiled polygons of two spans a row, 8,192 by 64": two_tiled_spans_a_row,
     "2,000 thin strokes around a surface, 128 by 128": thin_strokes_around_a_surface,
 }
-
-# What is to show in these is a small part of their work. One of them is in `slip_files`.
-CLOSE = dict.fromkeys(
-    [
-        "3,000 hatched rectangles of one row, 64 by 64",
-        "5 scaled polygons above a surface, a thin pen",
-        "2 tiled rectangles copied, 1,024 by 64",
-        "2 tiled rectangles mixed, 1,024 by 64",
-        "200 flat wide strokes, 1,200 by 1,024",
-        "4 wide rectangles inverted, 8,192 by 16",
-        "60 slanted strokes, 1,024 by 64",
-        "10 scaled polygons above a surface, 4 by 4",
-    ],
-    1.15,
-)

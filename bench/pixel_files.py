@@ -147,14 +147,3 @@ FILES = {
     "a dot over an image behind a long comment": over_a_long_comment,
     "a dot over an image behind a long number": over_a_long_number,
 }
-
-# What is to show in these is a small part of their work.
-CLOSE = dict.fromkeys(
-    [
-        "3 bitmaps of two colours, 256 by 256",
-        "3 bitmaps of sixteen colours, 256 by 256",
-        "3 bitmaps of 16 bits a pixel, 256 by 256",
-        "3 bitmaps of 32 bits a pixel, 256 by 256",
-    ],
-    1.1,
-)

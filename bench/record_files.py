@@ -175,13 +175,3 @@ FILES = {
     "1,000 skipped records in 64 bands": skipped_in_low_bands,
     "10,000 records of a rejected type, listed": listed_rejected_types,
 }
-
-# What is to show in these is a small part of their work.
-CLOSE = dict.fromkeys(
-    [
-        "one pen of 65,535, 8,192 by 1,024",
-        "15 lists of 10,000 unseen points from the position",
-        "300,000 empty lists, info",
-    ],
-    1.15,
-) | {"10,000 records of long names, listed": 1.1}

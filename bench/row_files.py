@@ -85,14 +85,3 @@ FILES = {
     "8,256 active edges, 100 by 64": edges_of_fewer_columns,
     "10,000 active edges, 2,048 by 3": edges_of_few_rows,
 }
-
-# What is to show in these is a small part of their work.
-CLOSE = dict.fromkeys(
-    [
-        "3,000 tiled rectangles behind a cut, 8,192 by 64",
-        "3,000 small tiled polygons, 8,192 by 64",
-        "3,000 small hatched polygons, 8,192 by 64",
-        "300 strokes at the right of a kept box, 8,192 by 64",
-    ],
-    1.1,
-)

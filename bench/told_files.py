@@ -185,23 +185,3 @@ FILES = {
     "200,000 records before the extent of a plain file that is refused": refused_before_a_late_extent,
     "a certificate of 200,000 entries for another file": long_certificates,
 }
-
-# What is to show in these is a small part of their work.
-CLOSE = dict.fromkeys(
-    [
-        "4,000 blits of WMF, listed",
-        "8,000 objects and colours, listed",
-        "9,100 modes and lists, listed",
-        "7,000 wide pens with dashes, listed",
-        "6,000 lines and rectangles under a wide pen, listed",
-        "10,000 lines and rectangles under a wide pen, checked",
-        "7,200 boxes and ends of a clip",
-        "2,100 objects at the lowest free index",
-        "2,800 brushes of packed bitmaps",
-        "2,800 brushes of bitmaps in parts",
-        "260 rarer records of WMF in 40 bands",
-        "340 rarer records in 40 bands",
-        "7,000 blits to far corners",
-    ],
-    1.1,
-) | {"20,000 records of forty unknown types, info": 1.15}
