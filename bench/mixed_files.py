@@ -10,8 +10,8 @@ from print_files import PRINT
 from slip_files import listed
 from writers import EMF, MASKED, PATCOPY, PATINVERT, SRCCOPY
 
-# How many files there are, how many sorts of drawings are in each, and about how many instructions each sort takes.
-FILES_MADE, SORTS, WORK = 180, 12, 400_000
+# How many files there are, how many sorts of drawings are in each, about how many instructions each sort takes, and its most drawings.
+FILES_MADE, SORTS, WORK, MOST_DRAWINGS = 180, 12, 400_000, 400
 
 # The surfaces, and how they are played. On those of more than 2,097,152 pixels a mask has a part of the rows.
 SURFACES = [(1024, 256), (256, 1024), (4096, 64), (64, 4096), (16, 8192), (8192, 16), (333, 777), (1000, 1000), (2048, 500), (7, 3000), (1023, 511), (2050, 1100)]
@@ -94,7 +94,7 @@ class Sort:
     def stroking(self, lines: int, length: int) -> int:
         """About how many instructions it takes to stroke so many lines of this length together."""
         if self.nib < 2:
-            return self.nib * (lines * 150 + length * 15)
+            return lines * 80 + self.nib * (lines * 70 + length * 15)
         covered = min(self.width * self.height, (length + self.nib * lines) * self.nib)
         return 3_000 + lines * 400 + length * 15 + covered * 2
 
@@ -162,7 +162,8 @@ class Sort:
         work = 500
         for _ in range(self.chance.randrange(1, 6)):
             made, taken = self.chance.choice([self.one_line, self.lone_polyline, self.polyline, self.polygon])()
-            records, work = records + made, work + taken
+            records += made
+            work += taken
         painted = self.chance.choice(["stroke_path", "fill_path", "stroke_and_fill_path", "abort_path"])
         return [*EMF.records("begin_path"), *records, *EMF.records(f"end_path; {painted}")], work
 
@@ -183,14 +184,17 @@ class Sort:
         return made
 
     def records(self) -> list[bytes]:
-        """A state, and as many drawings of a shape by chance as take about so much work."""
+        """A state, and as many drawings of a shape by chance as take about so much work, or the most."""
         records = self.state()
         shapes: list[Callable[[], Made]] = [self.rectangle, self.pattern, self.bitmap, self.one_line, self.lone_polyline]
         shapes += [self.polylines, self.polyline, self.polygon, self.polygons, self.path, self.pixels]
         shape, work = self.chance.choice(shapes), 0
-        while work < WORK:
+        for _ in range(MOST_DRAWINGS):
             made, taken = shape()
-            records, work = records + made, work + taken
+            records += made
+            work += taken
+            if work >= WORK:
+                break
         return records + EMF.records("restore -1; delete 0; delete 1")
 
 
