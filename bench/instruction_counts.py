@@ -20,6 +20,7 @@ import mixed_files
 import paint_files
 import pixel_files
 import record_files
+import refused_files
 import row_files
 import slip_files
 import stroke_files
@@ -49,8 +50,9 @@ MODULES = [
 # The files whose instructions are counted under both profiles.
 BOTH = {name: made for module in MODULES for name, made in module.FILES.items()}
 
-# Each of these under the core profile and under the print profile, those whose work is in parts of a unit, and drawings by chance.
-FILES = BOTH | {named_print(name): under_print(made) for name, made in BOTH.items()} | PARTS | mixed_files.FILES
+# Each of these under the core profile and under the print profile, those whose work is in parts of a unit, those that are rejected early, and drawings
+# by chance.
+FILES = BOTH | {named_print(name): under_print(made) for name, made in BOTH.items()} | PARTS | refused_files.FILES | mixed_files.FILES
 
 RECORD = ROOT / "bench" / "instructions.json"
 
@@ -73,6 +75,8 @@ def count(program, name):
         pathlib.Path(folder, "file").write_bytes(counted.certified or counted.given)
         if counted.image:
             pathlib.Path(folder, "image").write_bytes(counted.image)
+        if counted.certificate:
+            pathlib.Path(folder, "certificate").write_bytes(counted.certificate)
         if counted.preparing():
             subprocess.run([os.path.abspath(program), *counted.preparing()], cwd=folder, env={}, check=True)
         pathlib.Path(folder, "file").write_bytes(counted.given)

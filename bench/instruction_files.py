@@ -9,8 +9,8 @@ from writers import BETWEEN, EMF, MASKED, PATCOPY, PATINVERT, SRCCOPY, WMF, Bitm
 
 class Counted(NamedTuple):
     """A file, the surface that it is shown on, or another command that it is given to, the options for its rules, the status that is wanted, the
-    image that it is played over, the rows of a band where a play is asked for these, the file that its certificate is of where that's another, and how
-    many files that aren't there are named too."""
+    image that it is played over, the rows of a band where a play is asked for these, the file that its certificate is of where that's another, how many
+    files that aren't there are named too, and its certificate where that isn't prepared."""
 
     given: bytes
     width: int
@@ -22,6 +22,7 @@ class Counted(NamedTuple):
     bands: int = 0
     certified: bytes = b""
     missing: int = 0
+    certificate: bytes = b""
 
     def sides(self):
         """The words for its surface."""
@@ -29,13 +30,14 @@ class Counted(NamedTuple):
 
     def preparing(self):
         """The words that prepare what the command needs beside the file named `file`, if it needs anything."""
-        return ["prepare", "file", *self.sides(), "certificate", *self.options] if self.command in ("check", "play", "over") else None
+        is_prepared = self.command in ("check", "play", "over") and not self.certificate
+        return ["prepare", "file", *self.sides(), "certificate", *self.options] if is_prepared else None
 
     def words(self):
         """The words of the command that is counted, on a file named `file`."""
         bands = ["--bands", str(self.bands)] if self.bands else []
         certified = {"check": ["file", "certificate"], "play": ["file", "certificate", *self.sides(), *bands], "over": ["file", "certificate", "image"]}
-        plain = {"show": ["file", *self.sides()], "list": ["file"], "info": ["file", *["missing"] * self.missing]}
+        plain = {"show": ["file", *self.sides()], "prepare": ["file", *self.sides(), "certificate"], "list": ["file"], "info": ["file", *["missing"] * self.missing]}
         return [self.command, *(certified.get(self.command) or [*plain[self.command], *self.options])]
 
 

@@ -47,12 +47,12 @@ class CallsTest(unittest.TestCase):
         subprocess.run(words, check=True)
         (self.folder / "file").write_bytes(FILE)
 
-    def counted(self, program, *words):
-        """The reads and the writes of a command, and the length of what it writes to standard output."""
+    def counted(self, program, *words, ended=(0, b"")):
+        """The reads and the writes of a command that ends with a status and a text, and the length of what it writes to standard output."""
         told = self.folder / "told"
         told.unlink(missing_ok=True)
         answered = answer(program, words, cwd=self.folder, env={"LD_PRELOAD": str(self.library), "COUNTED_CALLS": str(told)})
-        self.assertEqual((answered.status, answered.err), (0, b""), words)
+        self.assertEqual((answered.status, answered.err), ended, words)
         reads, writes = map(int, told.read_text().split())
         return reads, writes, len(answered.out)
 
@@ -80,6 +80,12 @@ class Pieces(CallsTest):
         image = answer(program, ["show", self.folder / "file", "512", "512"]).out
         (self.folder / "image").write_bytes(image)
         self.check(program, ["over", "file", "certificate", "image"], reads_of(len(FILE), CERTIFICATE, len(image)), image_writes(512, 512))
+
+    @for_each_program
+    def test_an_image_beside_a_missing_certificate_is_not_read(self, program):
+        (self.folder / "image").write_bytes(b"P6 512 512 255\n" + bytes(3 * 512 * 512))
+        counted = self.counted(program, "over", "file", "missing", "image", ended=(3, b"metaplay: cannot read\n"))
+        self.assertEqual(counted, (reads_of(len(FILE)), 1, 0))
 
     @for_each_program
     def test_a_certificate_is_read_in_pieces(self, program):
