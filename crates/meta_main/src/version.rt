@@ -2,4 +2,4 @@
 
 /// The line that `--version` writes: the version, and the checksum of all sources but this one.
 pub(crate) const VERSION: &str =
-    "metaplay 1.1.0 (sources eccc3c67921e4d0a402dc48ef8ac3e3dd8d92930a575d99a76a444ba3c8998e6)\n";
+    "metaplay 1.1.0 (sources d84b5438d00176a279eae34ac7806deaeef65a3e78a1047a665128ffc76c14ab)\n";

@@ -19,15 +19,15 @@ pub(crate) const MOST_COLUMNS: u16 = 64;
 /// What is known before the first pixel of a line, so that each pixel costs little.
 #[derive(Clone, Copy, Debug)]
 pub(crate) struct Runs {
-    /// How many rows each row of a line lies before the mask's row.
+    /// How many rows each row of a line lies after its row of the mask.
     pub(crate) shift: u32,
     /// The number of columns around each pixel, all of which lie in the region.
     pub(crate) width: u32,
 }
 
-/// What is known of a line before its first pixel, if each row of it lies `shift` rows before the mask's row. `None` if there
-/// is no such number, if the nib has more than 64 columns, or if some of them around an end of the line lie outside the
-/// region.
+/// What is known of a line before its first pixel, if each row of it lies `shift` rows after its row of the mask.
+/// `None` if there is no such number, if the nib has more than 64 columns, or if some of them around an end of the line
+/// lie outside the region.
 pub(crate) fn runs_of(line: Line, frame: MaskFrame, shift: Option<u32>) -> Option<Runs>
     requires { IsMaskFrame frame }
     ensures runs { IfSome result (AreRuns frame line) }
@@ -57,7 +57,7 @@ fn is_inside(x: i32, frame: MaskFrame) -> bool
     first <= x && x < end
 }
 
-/// How many rows the mask's rows for some rows of lines are behind these: `None` if some but not all of them share a row of
+/// How many rows some rows of lines lie after their rows of the mask: `None` if some but not all of them share a row of
 /// the mask.
 pub(crate) fn shift_of(frame: MaskFrame, from: u32, count: u32) -> Option<u32>
     requires frame { IsMaskFrame frame }
