@@ -1,3 +1,4 @@
+mod DescriptionLemmas
 pub mod CountingLemmas
 pub mod FaultCountLemmas
 pub mod TextLemmas

@@ -1,5 +1,5 @@
 -- The text of a report in pieces: the first members, the faults, and the last members.
-use Rattle.std.proofs.Common.{◌≡◌, ◌∙◌, ◌||◌, if◌then◌else◌, ℕ, Bool, true, false, List, [], ◌∷◌, ◌++◌, Option, Some, None, ℤ, pos, negsuc, drop, codes, refl, sym, ap}
+use Rattle.std.proofs.Common.{◌≡◌, ◌∙◌, ◌||◌, if◌then◌else◌, ℕ, Bool, true, false, List, [], ◌∷◌, ◌++◌, Option, Some, None, ℤ, pos, negsuc, drop, codes, option_map, string_bytes, refl, sym, ap}
 use Rattle.std.proofs.lemmas.List.{append_assoc}
 use Rattle.serde_json.specs.Data.{Data, Items, Members, array, boolean, member, no_members, null, object, put, string}
 use Rattle.serde_json.specs.Written.{comma_if, compact_text, has_float, items_text, members_have_float, members_text}
@@ -9,7 +9,7 @@ use Rattle.meta_headers.specs.declared.opened.FileFormat.{FileFormat}
 use Rattle.report_parts.specs.Parts.{notes_data, report_text, whole_if}
 use Rattle.report_parts.specs.Whole.{if_whole, notes_whole, profile_whole, put_whole}
 use Rattle.file_info.specs.Info.{is_playing}
-use Rattle.file_info.specs.InfoReport.{axes_data, box_data, counted_items, dots_if, drawings_if, emf_frame_if, fault_if, first_members, format_data, frame_data, info_line, joined, kind_if, last_members, objects_if, paper_if, record_if, records_data, text_if, uses_if}
+use Rattle.file_info.specs.InfoReport.{axes_data, box_data, counted_items, dots_if, drawings_if, emf_frame_if, fault_if, first_members, format_data, frame_data, info_line, joined, kind_if, last_members, name_if, objects_if, paper_if, record_if, records_data, text_if, uses_if}
 use Rattle.file_info.specs.JoinedText.{PutsFaults, faults_text}
 use Rattle.file_info.specs.declared.info.FileInfo.{FileInfo}
 use Rattle.file_info.specs.declared.paper.Axes.{Axes}
@@ -18,11 +18,12 @@ use Rattle.file_info.specs.declared.paper.Sizes.{Sizes}
 -- the first and the last members of the core profile
 abbrev plain_first : FileInfo → Members
 plain_first info =
-    put (codes "dots_per_inch") (axes_data (dots_if info.sizes))
+    put (codes "description") (text_if (option_map string_bytes info.description))
+    (put (codes "dots_per_inch") (axes_data (dots_if info.sizes))
     (put (codes "drawings") (whole_if (drawings_if info.playing))
     (put (codes "emf_frame") (box_data (emf_frame_if info.sizes))
     (put (codes "error") null
-    (put (codes "fault") (text_if (fault_if info.playing)) no_members))))
+    (put (codes "fault") (text_if (fault_if info.playing)) no_members)))))
 
 abbrev plain_last : List ℕ → FileInfo → Members
 plain_last name info =
@@ -34,8 +35,9 @@ plain_last name info =
     (put (codes "objects") (whole_if (objects_if info.playing))
     (put (codes "plays") (boolean (is_playing info.playing))
     (put (codes "record") (whole_if (record_if info.playing))
+    (put (codes "record_name") (text_if (name_if info.format (kind_if info.playing)))
     (put (codes "records") (records_data info.format info.totals.records)
-    (put (codes "size") (axes_data (paper_if info.sizes)) no_members)))))))))
+    (put (codes "size") (axes_data (paper_if info.sizes)) no_members))))))))))
 
 -- whether there is a member
 abbrev starts : Members → Bool
@@ -106,10 +108,10 @@ starts_last name info = by_profile (is_print info.rules)
 
 -- the line of a file from its pieces
 pub in_pieces : (name : List ℕ) (info : FileInfo) (text with_faults : List ℕ) → text ≡ compact_text (object (first_members info))
-    → PutsFaults (counted_items info.totals.faults) text with_faults
+    → PutsFaults (counted_items info.format info.totals.faults) text with_faults
     → (with_faults ++ drop 1 (compact_text (object (last_members name info)))) ++ 10 ∷ [] ≡ info_line name info
 in_pieces name info text with_faults is puts =
-    ap (λ (t : List ℕ). t ++ 10 ∷ []) (all_pieces (first_members info) (last_members name info) (counted_items info.totals.faults) (starts_last name info) (starts_first info) text with_faults is puts)
+    ap (λ (t : List ℕ). t ++ 10 ∷ []) (all_pieces (first_members info) (last_members name info) (counted_items info.format info.totals.faults) (starts_last name info) (starts_first info) text with_faults is puts)
 
 -- all numbers of the last members are integers
 format_whole : (format : Option FileFormat) → has_float (format_data format) ≡ false
@@ -128,14 +130,21 @@ axes_whole : (axes : Option Axes) → has_float (axes_data axes) ≡ false
 axes_whole None = refl
 axes_whole (Some axes) = refl
 
+text_whole : (text : Option (List ℕ)) → has_float (text_if text) ≡ false
+text_whole None = refl
+text_whole (Some text) = refl
+
 pub last_whole : (name : List ℕ) (info : FileInfo) → has_float (object (last_members name info)) ≡ false
 last_whole name info =
     let m0 = put (codes "size") (axes_data (paper_if info.sizes)) no_members in
     let e0 : members_have_float m0 ≡ false = put_whole (codes "size") (axes_data (paper_if info.sizes)) no_members (axes_whole (paper_if info.sizes)) refl in
     let m1 = put (codes "records") (records_data info.format info.totals.records) m0 in
     let e1 : members_have_float m1 ≡ false = put_whole (codes "records") (records_data info.format info.totals.records) m0 (records_whole info.format info.totals.records) e0 in
-    let m2 = put (codes "record") (whole_if (record_if info.playing)) m1 in
-    let e2 : members_have_float m2 ≡ false = put_whole (codes "record") (whole_if (record_if info.playing)) m1 (if_whole (record_if info.playing)) e1 in
+    let named = text_if (name_if info.format (kind_if info.playing)) in
+    let mn = put (codes "record_name") named m1 in
+    let en : members_have_float mn ≡ false = put_whole (codes "record_name") named m1 (text_whole (name_if info.format (kind_if info.playing))) e1 in
+    let m2 = put (codes "record") (whole_if (record_if info.playing)) mn in
+    let e2 : members_have_float m2 ≡ false = put_whole (codes "record") (whole_if (record_if info.playing)) mn (if_whole (record_if info.playing)) en in
     let m3 = put (codes "plays") (boolean (is_playing info.playing)) m2 in
     let e3 : members_have_float m3 ≡ false = put_whole (codes "plays") (boolean (is_playing info.playing)) m2 refl e2 in
     let m4 = put (codes "objects") (whole_if (objects_if info.playing)) m3 in

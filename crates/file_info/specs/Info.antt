@@ -1,5 +1,5 @@
 -- What is known of a file without a certificate.
-use Rattle.std.specs.Prelude.{◌≡◌, ◌≤◌, ℕ, List, length, Option, Some, None, Result, Ok, Err, Bool, true, false}
+use Rattle.std.specs.Prelude.{◌≡◌, ◌≤◌, ℕ, List, length, Option, Some, None, Result, Ok, Err, Bool, true, false, option_map, string_bytes}
 use Rattle.mapping.specs.Image.{Image}
 use Rattle.mapping.specs.Limits.{surface_side_limit}
 use Rattle.draw_ops.specs.Content.{Content}
@@ -16,6 +16,7 @@ use Rattle.preflight_cert.specs.Preparation.{Prepares}
 use Rattle.preflight_cert.specs.Run.{Rejected}
 use Rattle.preflight_cert.specs.declared.uses.Uses.{Uses}
 use Rattle.file_info.specs.Counting.{HasTotals}
+use Rattle.file_info.specs.Description.{description_in}
 use Rattle.file_info.specs.Paper.{dots_in, emf_frame_in, paper_in}
 use Rattle.file_info.specs.Totals.{totals_of}
 use Rattle.file_info.specs.declared.info.FileInfo.{FileInfo}
@@ -57,12 +58,13 @@ abbrev pub IsPlaying : Rules → List ℕ → Playing → Type 0
 IsPlaying rules file (Plays drawings objects uses) = PlaysLargest rules file drawings objects uses
 IsPlaying rules file (Stops r) = Rejected rules file surface_side_limit surface_side_limit r.number r.fault
 
--- What is known of a file under rules: its format, the sizes in its headers, the totals of its records, and how its run
--- on the largest surface ends.
+-- What is known of a file under rules: its format, the sizes and the text in its headers, the totals of its records, and
+-- how its run on the largest surface ends.
 pub record IsInfoOf (rules : Rules) (file : List ℕ) (info : FileInfo) : Type 0 where
   pub under : info.rules ≡ rules
   pub format : info.format ≡ format_of file
   pub sizes : info.sizes ≡ sizes_if (opened file) file
+  pub description : option_map string_bytes info.description ≡ description_in (format_of file) file
   pub totals : HasTotals info.totals (totals_of rules file)
   pub playing : IsPlaying rules file info.playing
 

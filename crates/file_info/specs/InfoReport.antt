@@ -1,5 +1,5 @@
 -- The report about a file, as JSON.
-use Rattle.std.specs.Prelude.{ℕ, ℤ, pos, negsuc, List, [], ◌∷◌, Option, Some, None, codes}
+use Rattle.std.specs.Prelude.{ℕ, ℤ, pos, negsuc, List, [], ◌∷◌, Option, Some, None, codes, option_map, string_bytes}
 use Rattle.serde_json.specs.Data.{Data, Items, Members, array, boolean, item, member, negative, no_items, no_members, null, number, object, put, string, unsigned}
 use Rattle.mapping.specs.declared.geometry.Rect.{Rect}
 use Rattle.draw_ops.specs.Fault.{record_kind_of}
@@ -7,6 +7,7 @@ use Rattle.draw_ops.specs.FaultTable.{fault_row}
 use Rattle.meta_headers.specs.Formats.{format_name}
 use Rattle.meta_headers.specs.declared.opened.FileFormat.{FileFormat}
 use Rattle.draw_ops.specs.declared.rules.Rules.{Rules}
+use Rattle.listing.specs.RecordNames.{record_name}
 use Rattle.report_parts.specs.Parts.{notes_data, pair, report_text, whole, whole_if}
 use Rattle.report_parts.specs.Profile.{uses_data, with_allowed, with_profile}
 use Rattle.file_info.specs.Info.{is_playing}
@@ -96,17 +97,23 @@ abbrev pub record_if : Playing → Option ℕ
 record_if (Plays drawings objects uses) = None
 record_if (Stops r) = r.number
 
--- a fault with how often it occurs
-abbrev pub counted_data : FaultCount → Data
-counted_data counted =
+-- the standard's name of a kind of record in a file of some format, if it has one
+abbrev pub name_if : Option FileFormat → Option ℕ → Option (List ℕ)
+name_if (Some format) (Some kind) = record_name format kind
+name_if format kind = None
+
+-- a fault in a file of some format, with how often it occurs
+abbrev pub counted_data : Option FileFormat → FaultCount → Data
+counted_data format counted =
     object (member (codes "count") (whole counted.count)
     (member (codes "fault") (string (fault_row counted.fault).name)
-    (member (codes "number") (whole_if (record_kind_of counted.fault)) no_members)))
+    (member (codes "number") (whole_if (record_kind_of counted.fault))
+    (member (codes "record_name") (text_if (name_if format (record_kind_of counted.fault))) no_members))))
 
 -- all faults, each with how often it occurs
-abbrev pub counted_items : List (ℕ × FaultCount) → Items
-counted_items [] = no_items
-counted_items (entry ∷ entries) = item (counted_data entry.1) (counted_items entries)
+abbrev pub counted_items : Option FileFormat → List (ℕ × FaultCount) → Items
+counted_items format [] = no_items
+counted_items format (entry ∷ entries) = item (counted_data format entry.1) (counted_items format entries)
 
 -- members followed by others
 abbrev pub joined : Members → Members → Members
@@ -117,19 +124,21 @@ joined (member name value members) others = member name value (joined members ot
 abbrev pub first_members : FileInfo → Members
 first_members info =
     with_allowed info.rules (uses_if info.playing)
+    (put (codes "description") (text_if (option_map string_bytes info.description))
     (put (codes "dots_per_inch") (axes_data (dots_if info.sizes))
     (put (codes "drawings") (whole_if (drawings_if info.playing))
     (put (codes "emf_frame") (box_data (emf_frame_if info.sizes))
     (put (codes "error") null
-    (put (codes "fault") (text_if (fault_if info.playing)) no_members)))))
+    (put (codes "fault") (text_if (fault_if info.playing)) no_members))))))
 
--- four members more for how the file's run ends
-abbrev pub with_playing : Playing → Members → Members
-with_playing playing members =
+-- five members more for how the run of a file of some format ends
+abbrev pub with_playing : Option FileFormat → Playing → Members → Members
+with_playing format playing members =
     put (codes "number") (whole_if (kind_if playing))
     (put (codes "objects") (whole_if (objects_if playing))
     (put (codes "plays") (boolean (is_playing playing))
-    (put (codes "record") (whole_if (record_if playing)) members)))
+    (put (codes "record") (whole_if (record_if playing))
+    (put (codes "record_name") (text_if (name_if format (kind_if playing))) members))))
 
 -- the members after `faults`
 abbrev pub last_members : List ℕ → FileInfo → Members
@@ -139,14 +148,14 @@ last_members name info =
     (put (codes "format") (format_data info.format)
     (put (codes "frame") (frame_data info.sizes)
     (put (codes "notes") (notes_data info.totals.notes.counts)
-    (with_playing info.playing
+    (with_playing info.format info.playing
     (put (codes "records") (records_data info.format info.totals.records)
     (put (codes "size") (axes_data (paper_if info.sizes)) no_members)))))))
 
 -- the report about the file with this name
 abbrev pub info_data : List ℕ → FileInfo → Data
 info_data name info =
-    object (joined (first_members info) (member (codes "faults") (array (counted_items info.totals.faults)) (last_members name info)))
+    object (joined (first_members info) (member (codes "faults") (array (counted_items info.format info.totals.faults)) (last_members name info)))
 
 -- the members, and those after `file`, all of them null
 abbrev pub with_last_unknown : Members → Members
@@ -158,21 +167,23 @@ with_last_unknown members =
     (put (codes "objects") null
     (put (codes "plays") null
     (put (codes "record") null
+    (put (codes "record_name") null
     (put (codes "records") null
-    (put (codes "size") null members))))))))
+    (put (codes "size") null members)))))))))
 
 -- The report about a file that wasn't read, with the same names.
 abbrev pub unread_data : Rules → List ℕ → List ℕ → Data
 unread_data rules name error =
     object (with_allowed rules null
     (with_profile rules
+    (put (codes "description") null
     (put (codes "dots_per_inch") null
     (put (codes "drawings") null
     (put (codes "emf_frame") null
     (put (codes "error") (string error)
     (put (codes "fault") null
     (put (codes "faults") null
-    (put (codes "file") (string name) (with_last_unknown no_members))))))))))
+    (put (codes "file") (string name) (with_last_unknown no_members)))))))))))
 
 -- The line of a file: its report, and a line feed.
 abbrev pub info_line : List ℕ → FileInfo → List ℕ

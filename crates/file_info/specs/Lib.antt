@@ -1,3 +1,4 @@
+pub mod Description
 pub mod Counting
 pub mod FaultCounts
 pub mod Info

@@ -8,7 +8,8 @@ ghost use Rattle.file_info.specs.JoinedText.{item_text};
 
 use crate::fault_count::FaultCount;
 use crate::fault_counts::FaultCounts;
-use crate::playing_values::number_value;
+use crate::playing_values::{name_of, number_value, text_value};
+use meta_headers::FileFormat;
 use report_parts::compact_text_of;
 use serde_json::{Value, json};
 use std::alloc::{AllocError, Global};
@@ -17,13 +18,14 @@ use std::alloc::{AllocError, Global};
 pub(crate) fn put_counted(
     alloc: Global,
     text: &mut Vec<u8>,
+    format: Option<FileFormat>,
     faults: &FaultCounts,
 ) -> Result<(), AllocError>
-    ensures { OnOk result (text.new.items ≡ text.old.items ++ items_text false (counted_items faults.now)) }
+    ensures { OnOk result (text.new.items ≡ text.old.items ++ items_text false (counted_items format faults.now)) }
 {
     let mut is_later = false;
     for (_, counted) in &faults.counts {
-        put_item(alloc, text, is_later, *counted)?;
+        put_item(alloc, text, is_later, format, *counted)?;
         is_later = true;
     }
     text.push(b']')?;
@@ -35,11 +37,12 @@ fn put_item(
     alloc: Global,
     text: &mut Vec<u8>,
     is_later: bool,
+    format: Option<FileFormat>,
     counted: FaultCount,
 ) -> Result<(), AllocError>
-    ensures { OnOk result (text.new.items ≡ text.old.items ++ item_text is_later counted) }
+    ensures { OnOk result (text.new.items ≡ text.old.items ++ item_text is_later format counted) }
 {
-    let item = counted_value(alloc, counted)?;
+    let item = counted_value(alloc, format, counted)?;
     let part = compact_text_of(alloc, &item)?;
     if is_later {
         text.push(b',')?;
@@ -48,14 +51,21 @@ fn put_item(
     Ok(())
 }
 
-/// A fault with how often it occurs.
-fn counted_value(alloc: Global, counted: FaultCount) -> Result<Value, AllocError>
-    ensures { IfOk result (λ value. view value ≡ counted_data counted) }
+/// A fault in a file of this format, with how often it occurs.
+fn counted_value(
+    alloc: Global,
+    format: Option<FileFormat>,
+    counted: FaultCount,
+) -> Result<Value, AllocError>
+    ensures { IfOk result (λ value. view value ≡ counted_data format counted) }
 {
-    let number = number_value(counted.fault.number());
+    let kind = counted.fault.number();
+    let number = number_value(kind);
+    let name = text_value(alloc, name_of(format, kind))?;
     json!(in alloc; {
         "count": counted.count,
         "fault": counted.fault.name(),
         "number": number,
+        "record_name": name,
     })
 }

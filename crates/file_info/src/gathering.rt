@@ -5,6 +5,7 @@ ghost use Rattle.meta_headers.specs.Opening.{opened};
 ghost use Rattle.file_info.specs.Info.{IsInfoOf, IsPlaying, PlaysEverywhere, is_playing, sizes_if};
 
 use crate::counting::count_records;
+use crate::description::description;
 use crate::info::FileInfo;
 use crate::paper::Sizes;
 use crate::playing::Playing;
@@ -16,18 +17,21 @@ use meta_headers::{FileFormat, open_file, opening_law};
 use preflight_cert::{Prepared, run_law, size_law};
 use std::alloc::Global;
 
-/// What is known of a file under these rules: its format, the sizes in its headers, its records, notes and faults, and how
-/// its run on the largest surface ends. A file whose run there has no fault plays on every surface.
+/// What is known of a file under these rules: its format, the sizes and the text in its headers, its records, notes and
+/// faults, and how its run on the largest surface ends. A file whose run there has no fault plays on every surface.
 pub fn file_info(alloc: Global, rules: Rules, file: &[u8]) -> Result<FileInfo, OutOfMemory>
     ensures info { IfOk result (IsInfoOf rules file.now) }
     ensures plays { IfOk result (λ info. is_playing info.playing ≡ true ↔ PlaysEverywhere rules file.now) }
 {
     let totals = count_records(alloc, rules, file)?;
     let playing = playing(alloc, rules, file)?;
+    let format = FileFormat::of(file);
+    let description = description(alloc, format, file)?;
     Ok(FileInfo {
         rules,
-        format: FileFormat::of(file),
+        format,
         sizes: sizes_if_opened(file),
+        description,
         totals,
         playing,
     })

@@ -15,6 +15,8 @@ pub struct FileInfo {
     pub format: Option<FileFormat>,
     /// The sizes that the headers give. `None` if they have a fault.
     pub sizes: Option<Sizes>,
+    /// The text in the header of an EMF file that names the program and the picture.
+    pub description: Option<String>,
     pub totals: Totals,
     pub playing: Playing,
 }

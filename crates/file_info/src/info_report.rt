@@ -12,13 +12,16 @@ use crate::counted_text::put_counted;
 use crate::fault_counts::FaultCounts;
 use crate::info::FileInfo;
 use crate::info_values::{
-    axes_value, box_value, dots_of, format_value, frame_value, paper_of, records_value,
+    axes_value, box_value, description_value, dots_of, format_value, frame_value, paper_of,
+    records_value,
 };
 use crate::playing::Playing;
 use crate::playing_values::{
-    allowed_value, drawings_value, fault_value, kind_value, objects_value, record_value,
+    allowed_value, drawings_value, fault_value, kind_name_value, kind_value, objects_value,
+    record_value,
 };
 use draw_ops::Rules;
+use meta_headers::FileFormat;
 use report_parts::{
     compact_text_of, notes_value, put_allowed, put_profile, put_text, report_text_of,
 };
@@ -33,7 +36,7 @@ pub fn info_text(alloc: Global, name: &str, info: &FileInfo) -> Result<Vec<u8>, 
     let last = last_value(alloc, name, info)?;
     let mut text = compact_text_of(alloc, &first)?;
     let rest = compact_text_of(alloc, &last)?;
-    put_faults(alloc, &mut text, &info.totals.faults)?;
+    put_faults(alloc, &mut text, info.format, &info.totals.faults)?;
     text.extend_from_slice(without_first(&rest))?;
     text.push(b'\n')?;
     Ok(text)
@@ -47,6 +50,7 @@ fn first_value(alloc: Global, info: &FileInfo) -> Result<Value, AllocError>
     let frame = box_value(alloc, info.sizes)?;
     let fault = fault_value(alloc, info.playing)?;
     let uses = allowed_value(alloc, info.playing)?;
+    let description = description_value(alloc, &info.description)?;
     let mut members = Map::new(alloc);
     put(&mut members, alloc, "fault", fault)?;
     put(&mut members, alloc, "error", Value::Null)?;
@@ -58,6 +62,7 @@ fn first_value(alloc: Global, info: &FileInfo) -> Result<Value, AllocError>
         drawings_value(info.playing),
     )?;
     put(&mut members, alloc, "dots_per_inch", dots)?;
+    put(&mut members, alloc, "description", description)?;
     put_allowed(&mut members, alloc, info.rules, uses)?;
     Ok(Value::from(members))
 }
@@ -78,7 +83,7 @@ fn last_value(alloc: Global, name: &str, info: &FileInfo) -> Result<Value, Alloc
         "records",
         records_value(info.format, info.totals.records),
     )?;
-    put_playing(&mut members, alloc, info.playing)?;
+    put_playing(&mut members, alloc, info.format, info.playing)?;
     put(&mut members, alloc, "notes", notes)?;
     put(&mut members, alloc, "frame", frame)?;
     put(&mut members, alloc, "format", format)?;
@@ -91,10 +96,13 @@ fn last_value(alloc: Global, name: &str, info: &FileInfo) -> Result<Value, Alloc
 fn put_playing(
     members: &mut Map<String, Value>,
     alloc: Global,
+    format: Option<FileFormat>,
     playing: Playing,
 ) -> Result<(), AllocError>
-    ensures { OnOk result (members_view members.new.entries ≡ with_playing playing (members_view members.old.entries)) }
+    ensures { OnOk result (members_view members.new.entries ≡ with_playing format playing (members_view members.old.entries)) }
 {
+    let name = kind_name_value(alloc, format, playing)?;
+    put(members, alloc, "record_name", name)?;
     put(members, alloc, "record", record_value(playing))?;
     put(members, alloc, "plays", Value::from(playing.is_playing()))?;
     put(members, alloc, "objects", objects_value(playing))?;
@@ -102,12 +110,17 @@ fn put_playing(
 }
 
 /// Puts the member `faults` in place of the brace at the end of a text, and a comma after it.
-fn put_faults(alloc: Global, text: &mut Vec<u8>, faults: &FaultCounts) -> Result<(), AllocError>
-    ensures { OnOk result (PutsFaults (counted_items faults.now) text.old.items text.new.items) }
+fn put_faults(
+    alloc: Global,
+    text: &mut Vec<u8>,
+    format: Option<FileFormat>,
+    faults: &FaultCounts,
+) -> Result<(), AllocError>
+    ensures { OnOk result (PutsFaults (counted_items format faults.now) text.old.items text.new.items) }
 {
     text.pop();
     put_head(alloc, text)?;
-    put_counted(alloc, text, faults)?;
+    put_counted(alloc, text, format, faults)?;
     text.push(b',')?;
     Ok(())
 }
@@ -169,6 +182,7 @@ fn unread_value(alloc: Global, rules: Rules, name: &str, error: &str) -> Result<
     put(&mut members, alloc, "emf_frame", Value::Null)?;
     put(&mut members, alloc, "drawings", Value::Null)?;
     put(&mut members, alloc, "dots_per_inch", Value::Null)?;
+    put(&mut members, alloc, "description", Value::Null)?;
     put_profile(&mut members, alloc, rules)?;
     put_allowed(&mut members, alloc, rules, Value::Null)?;
     Ok(Value::from(members))
@@ -180,6 +194,7 @@ fn put_last_unknown(members: &mut Map<String, Value>, alloc: Global) -> Result<(
 {
     put(members, alloc, "size", Value::Null)?;
     put(members, alloc, "records", Value::Null)?;
+    put(members, alloc, "record_name", Value::Null)?;
     put(members, alloc, "record", Value::Null)?;
     put(members, alloc, "plays", Value::Null)?;
     put(members, alloc, "objects", Value::Null)?;

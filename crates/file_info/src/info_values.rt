@@ -1,8 +1,8 @@
 //! Values in the report about a file: its format and its sizes.
 
-ghost use Rattle.std.specs.Prelude.{◌≡◌, IfOk};
+ghost use Rattle.std.specs.Prelude.{◌≡◌, IfOk, option_map, string_bytes};
 ghost use Rattle.serde_json.specs.View.{view};
-ghost use Rattle.file_info.specs.InfoReport.{axes_data, box_data, dots_if, edges_data, emf_frame_if, format_data, frame_data, paper_if, records_data};
+ghost use Rattle.file_info.specs.InfoReport.{axes_data, box_data, dots_if, edges_data, emf_frame_if, format_data, frame_data, paper_if, records_data, text_if};
 
 use crate::paper::{Axes, Sizes};
 use mapping::Rect;
@@ -17,6 +17,19 @@ pub(crate) fn format_value(alloc: Global, format: Option<FileFormat>) -> Result<
 {
     match format {
         Some(format) => Value::try_from_str(alloc, format.name()),
+        None => Ok(Value::Null),
+    }
+}
+
+/// The text in the header, or null if there is none.
+pub(crate) fn description_value(
+    alloc: Global,
+    description: &Option<String>,
+) -> Result<Value, AllocError>
+    ensures { IfOk result (λ value. view value ≡ text_if (option_map string_bytes description.now)) }
+{
+    match description {
+        Some(text) => Value::try_from_str(alloc, text.as_str()),
         None => Ok(Value::Null),
     }
 }

@@ -2,8 +2,8 @@
 //!
 //! # What is promised
 //!
-//! - The information about a file has its format, the sizes in its headers, the totals of its records, and how its run
-//!   on the largest surface ends (`file_info`, by `IsInfoOf`). A file that plays there plays on every surface.
+//! - The information about a file has its format, the sizes and the text in its headers, the totals of its records, and
+//!   how its run on the largest surface ends (`file_info`, by `IsInfoOf`). A file that plays there plays on every surface.
 //! - The totals are the number of records, the notes of headers and records by kind, and how often each fault occurs:
 //!   the fault of the headers, the one by which the records break, and for each record the fault that a listing gives
 //!   it (`count_records`, by `totals_of`).
@@ -14,6 +14,7 @@
 
 mod counted_text;
 mod counting;
+mod description;
 mod fault_count;
 mod fault_counts;
 mod gathering;

@@ -1,11 +1,13 @@
 //! Values in the report about a file: how its run on the largest surface ends.
 
-ghost use Rattle.std.specs.Prelude.{◌≡◌, IfOk};
+ghost use Rattle.std.specs.Prelude.{◌≡◌, IfOk, option_map};
 ghost use Rattle.serde_json.specs.View.{view};
 ghost use Rattle.report_parts.specs.Parts.{whole_if};
-ghost use Rattle.file_info.specs.InfoReport.{drawings_if, fault_if, kind_if, objects_if, record_if, text_if, uses_if};
+ghost use Rattle.file_info.specs.InfoReport.{drawings_if, fault_if, kind_if, name_if, objects_if, record_if, text_if, uses_if};
 
 use crate::playing::Playing;
+use listing::record_name;
+use meta_headers::FileFormat;
 use report_parts::uses_value;
 use serde_json::Value;
 use std::alloc::{AllocError, Global};
@@ -57,6 +59,40 @@ pub(crate) fn kind_value(playing: Playing) -> Value
     match playing {
         Playing::Plays { .. } => Value::Null,
         Playing::Stops(refusal) => number_value(refusal.fault.number()),
+    }
+}
+
+/// The standard's name of the kind of record that the first fault refers to, or null if there is none.
+pub(crate) fn kind_name_value(
+    alloc: Global,
+    format: Option<FileFormat>,
+    playing: Playing,
+) -> Result<Value, AllocError>
+    ensures { IfOk result (λ value. view value ≡ text_if (name_if format (kind_if playing))) }
+{
+    match playing {
+        Playing::Plays { .. } => text_value(alloc, name_of(format, None)),
+        Playing::Stops(refusal) => text_value(alloc, name_of(format, refusal.fault.number())),
+    }
+}
+
+/// The standard's name of a kind of record in a file of this format, if it has one.
+pub(crate) fn name_of(format: Option<FileFormat>, kind: Option<u32>) -> Option<&'static str>
+    ensures { option_map (λ name. name.now) result ≡ name_if format kind }
+{
+    match (format, kind) {
+        (Some(format), Some(kind)) => record_name(format, kind),
+        _ => None,
+    }
+}
+
+/// A text, or null if there is none.
+pub(crate) fn text_value(alloc: Global, text: Option<&str>) -> Result<Value, AllocError>
+    ensures { IfOk result (λ value. view value ≡ text_if (option_map (λ it. it.now) text.entry)) }
+{
+    match text {
+        Some(text) => Value::try_from_str(alloc, text),
+        None => Ok(Value::Null),
     }
 }
 

@@ -13,6 +13,7 @@ pub mod Sent
 pub mod SameStep
 pub mod WmfNames
 pub mod EmfNames
+pub mod RecordNames
 pub mod Formats
 pub mod Walk
 pub mod WalkState

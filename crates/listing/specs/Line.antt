@@ -8,13 +8,12 @@ use Rattle.draw_ops.specs.declared.fault.Fault.{Fault}
 use Rattle.draw_ops.specs.declared.fault.Fault.TheVariants.{Record as InRecord}
 use Rattle.draw_ops.specs.declared.record_fault.RecordFault.{RecordFault}
 use Rattle.draw_ops.specs.declared.note.Note.TheVariants.{EmfPlus, Skipped}
-use Rattle.listing.specs.EmfNames.{emf_name_of}
 use Rattle.meta_headers.specs.declared.opened.FileFormat.{FileFormat}
 use Rattle.meta_headers.specs.declared.opened.FileFormat.TheVariants.{Placeable, Plain, Emf}
-use Rattle.listing.specs.WmfNames.{wmf_name_of}
 use Rattle.listing.specs.Asked.{asked_text}
 use Rattle.listing.specs.NoteTexts.{notes_text}
 use Rattle.listing.specs.Parts.{four_digits}
+use Rattle.listing.specs.RecordNames.{record_name}
 
 -- a kind in its format's base: a function of WMF in four hexadecimal digits, a type of EMF in decimal
 abbrev pub kind_text : FileFormat → ℕ → List ℕ
@@ -29,9 +28,7 @@ text_or_hyphen (Some name) = name
 
 -- the standard's name of a kind, or a hyphen if it has none
 abbrev pub kind_name : FileFormat → ℕ → List ℕ
-kind_name Placeable kind = text_or_hyphen (wmf_name_of kind)
-kind_name Plain kind = text_or_hyphen (wmf_name_of kind)
-kind_name Emf kind = text_or_hyphen (emf_name_of kind)
+kind_name format kind = text_or_hyphen (record_name format kind)
 
 -- what the player does with a record that has no fault: `noted` if it is skipped or an EMF+ comment, otherwise `played`
 abbrev pub action_text : List ℕ → List ℕ

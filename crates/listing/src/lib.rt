@@ -26,7 +26,7 @@
 //!   separately (`PlacedRecord::step`, or `step_in` for a file's format).
 //! - Where a file's records begin depends on its format (`records_in`).
 //! - Each function of WMF and each type of EMF in the table of kinds has a name, and no others have (`function_name`,
-//!   `wmf_names_law`, `type_name`, `emf_names_law`).
+//!   `wmf_names_law`, `type_name`, `emf_names_law`, and for a file's format `record_name`).
 //! - Only `DryRun::new` gets an allocator.
 #![tactic(auto)]
 
@@ -42,6 +42,7 @@ mod listing_end;
 mod listing_output;
 mod noting;
 mod object_texts;
+mod record_names;
 mod record_walk;
 mod sender;
 mod text_buffer;
@@ -54,5 +55,6 @@ pub use laws::{core_listing_law, listing_law};
 pub use line::step_in;
 pub use listing_end::ListingEnd;
 pub use listing_output::{write_listing, write_listing_to};
+pub use record_names::record_name;
 pub use record_walk::{PlacedRecord, RecordWalk};
 pub use wmf_names::{function_name, wmf_names_law};

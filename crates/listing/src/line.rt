@@ -13,12 +13,11 @@ ghost use Rattle.listing.specs.Listing.{no_format_line};
 ghost use Rattle.listing.specs.Putting.{placed_line, placed_step_in};
 
 use crate::asked::put_asked;
-use crate::emf_names::type_name;
 use crate::field_texts::{put_four_digits, put_number, put_size};
 use crate::noting::put_notes;
+use crate::record_names::record_name;
 use crate::record_walk::PlacedRecord;
 use crate::text_buffer::TextBuffer;
-use crate::wmf_names::function_name;
 use draw_ops::{Fault, Note, NoteSet, RecordFault, Step};
 use emf_records::Emf;
 use meta_headers::FileFormat;
@@ -64,11 +63,7 @@ fn kind_name(format: FileFormat, kind: u32) -> &'static str
     ensures name { result.now ≡ kind_name format kind }
     ensures short { length result.now ≤ 27 }
 {
-    match format {
-        FileFormat::Placeable => name_or_hyphen(function_name(kind)),
-        FileFormat::Plain => name_or_hyphen(function_name(kind)),
-        FileFormat::Emf => name_or_hyphen(type_name(kind)),
-    }
+    name_or_hyphen(record_name(format, kind))
 }
 
 /// What the player does with a record that has these notes.
