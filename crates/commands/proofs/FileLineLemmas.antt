@@ -5,7 +5,7 @@ use Rattle.file_info.specs.Info.{IsInfoOf, PlaysEverywhere, is_playing}
 use Rattle.file_info.specs.InfoReport.{info_line}
 use Rattle.file_info.specs.declared.info.FileInfo.{FileInfo}
 use Rattle.commands.specs.Faults.{fault_text, input_end}
-use Rattle.commands.specs.InfoLines.{IsLineBy, IsLineOfBytes, IsUnreadLine, read_end, unread_line}
+use Rattle.commands.specs.InfoLines.{IsInfoLine, IsLineOfBytes, IsUnreadLine, read_end, unread_line}
 use Rattle.commands.specs.Inputs.{IsInput}
 use Rattle.commands.specs.declared.command_end.CommandEnd.{CommandEnd}
 use Rattle.commands.specs.declared.command_end.CommandEnd.TheVariants as end
@@ -33,6 +33,7 @@ unread_of_bytes rules name bytes text end.OutOfMemory line = line
 unread_of_bytes rules name bytes text end.Done line = absurd line
 unread_of_bytes rules name bytes text end.Rejected line = absurd line
 unread_of_bytes rules name bytes text end.CannotWrite line = absurd line
+unread_of_bytes rules name bytes text end.CannotStore line = absurd line
 unread_of_bytes rules name bytes text end.WrongUsage line = absurd line
 unread_of_bytes rules name bytes text end.Help line = absurd line
 unread_of_bytes rules name bytes text end.OutIsFile line = absurd line
@@ -42,8 +43,8 @@ any_input : (name : List ℕ) (input : Option (List ℕ)) → IsInput name input
 any_input name None same = tt
 any_input name (Some all) same = refl
 
-pub line_by : (rules : Rules) (name bytes text : List ℕ) (input : Option (List ℕ)) (e : CommandEnd) → IsInput name input bytes → IsLineOfBytes e rules name bytes text → IsLineBy e rules name input text
+pub line_by : (rules : Rules) (name bytes text : List ℕ) (input : Option (List ℕ)) (e : CommandEnd) → IsInput name input bytes → IsLineOfBytes e rules name bytes text → IsInfoLine e rules name input text
 line_by rules name bytes text input e read line = record { bytes = bytes; read = read; line = line }
 
-pub unread_by : (rules : Rules) (name text : List ℕ) (input : Option (List ℕ)) (e : CommandEnd) → IsUnreadLine rules name e text → IsLineBy e rules name input text
+pub unread_by : (rules : Rules) (name text : List ℕ) (input : Option (List ℕ)) (e : CommandEnd) → IsUnreadLine rules name e text → IsInfoLine e rules name input text
 unread_by rules name text input e line = record { bytes = unwrap_or input []; read = any_input name input; line = unread_of_bytes rules name (unwrap_or input []) text e line }

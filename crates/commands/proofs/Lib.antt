@@ -1,6 +1,6 @@
 pub mod FailureLemmas
 pub mod FileLineLemmas
-pub mod InfoLineLemmas
+pub mod BatchLineLemmas
 pub mod LineLemmas
 pub mod ListLemmas
 pub mod PlayLemmas

@@ -1,6 +1,6 @@
 -- All numbers of a report are integers, and it has as many drawings as there are entries.
 use Rattle.std.proofs.Common.{◌≡◌, ◌∙◌, ◌⊎◌, inl, inr, ap, subst, sym, Result, Ok, true, false, ℕ, List, [], ◌∷◌, length, Option, codes, refl}
-use Rattle.serde_json.specs.Data.{Data, boolean, no_members, put, string}
+use Rattle.serde_json.specs.Data.{boolean, no_members, object, put, string}
 use Rattle.serde_json.specs.Written.{has_float, members_have_float}
 use Rattle.mapping.specs.Surface.{Surface}
 use Rattle.draw_ops.specs.declared.rules.Rules.{Rules}
@@ -31,10 +31,10 @@ use Rattle.meta_headers.specs.Formats.{format_name}
 use Rattle.report_parts.specs.Parts.{notes_data, pair, report_text, whole, whole_if}
 use Rattle.report_parts.specs.Profile.{uses_data, with_profile}
 use Rattle.report_parts.specs.Whole.{allowed_whole, if_whole, notes_whole, profile_whole, put_whole, uses_whole}
-use Rattle.commands.specs.CheckReport.{ReportsAccepted, ReportsRejected, accepted_report, needs_data, rejected_report}
-use Rattle.commands.specs.ClearedFiles.{report_of}
+use Rattle.commands.specs.CheckReport.{AcceptsWith, ReportsAccepted, ReportsRejected, accepted_members, needs_data, rejected_members}
+use Rattle.commands.specs.ClearedFiles.{members_of}
 
-accepted_whole : (o : OpenedValue) (c : CertificateValue) (records drawings : ℕ) (notes : List ℕ) (uses : Uses) → has_float (accepted_report o c records drawings notes uses) ≡ false
+accepted_whole : (o : OpenedValue) (c : CertificateValue) (records drawings : ℕ) (notes : List ℕ) (uses : Uses) → members_have_float (accepted_members o c records drawings notes uses) ≡ false
 accepted_whole o c records drawings notes uses =
     let m0 = put (codes "writes") (whole c.writes) no_members in
     let e0 : members_have_float m0 ≡ false = put_whole (codes "writes") (whole c.writes) no_members refl refl in
@@ -58,12 +58,12 @@ accepted_whole o c records drawings notes uses =
     let e9 : members_have_float m9 ≡ false = profile_whole o.rules m8 e8 in
     allowed_whole o.rules (uses_data uses.held_deletion uses.emf_plus) m9 (uses_whole uses.held_deletion uses.emf_plus) e9
 
-pub report_whole : (cleared : Cleared) → has_float (report_of cleared) ≡ false
-report_whole cleared =
+pub members_whole : (cleared : Cleared) → members_have_float (members_of cleared) ≡ false
+members_whole cleared =
     accepted_whole (opened_of cleared.opened) (certificate_of cleared.certificate) cleared.records (length (entries_of cleared.certificate.entries)) cleared.notes.counts
     cleared.uses
 
-pub rejected_whole : (number : Option ℕ) (fault : Fault) → has_float (rejected_report number fault) ≡ false
+pub rejected_whole : (number : Option ℕ) (fault : Fault) → members_have_float (rejected_members number fault) ≡ false
 rejected_whole number fault =
     let m0 = put (codes "record") (whole_if number) no_members in
     let e0 : members_have_float m0 ≡ false = put_whole (codes "record") (whole_if number) no_members (if_whole number) refl in
@@ -94,25 +94,25 @@ answered file bytes cleared rules accepts from read =
     (ap (λ (r : Rules). opened_by r file) (sym rules) ∙ from.opens) accepts in
     subst (λ (r : Result CertificateValue Fault). AnswersRead r (opened_of cleared.opened) (record_bytes cleared.opened.format file) accepted) read opens
 
-same_report : (cleared : Cleared) (content : Content) → HasContentOf cleared.opened.format cleared.opened.records.now content
+same_members : (cleared : Cleared) (content : Content) → HasContentOf cleared.opened.format cleared.opened.records.now content
     → CountsRecords (opened_of cleared.opened) cleared.opened.records.now cleared.records cleared.notes.counts cleared.uses
     → Fits (certificate_of cleared.certificate) (opened_of cleared.opened) content
-    → report_of cleared
-    ≡ accepted_report (opened_of cleared.opened) (certificate_of cleared.certificate) (length content.steps)
+    → members_of cleared
+    ≡ accepted_members (opened_of cleared.opened) (certificate_of cleared.certificate) (length content.steps)
     (length (drawings_of content.steps (start_of (opened_of cleared.opened)))) (file_notes content (opened_of cleared.opened)) (file_uses content (opened_of cleared.opened))
-same_report cleared content has counts fits =
+same_members cleared content has counts fits =
     let records = counts.all content has in
     let drawings = as_many _ _ _ fits.covered in
     let notes = counts.notes content has in
     let uses = counts.uses content has in
     rw (records, drawings, notes, uses) refl
 
--- what was checked, and its report, in terms of the file and the certificate
-pub reports : (file bytes : List ℕ) (cleared : Cleared) (text : List ℕ) → AnswerLaws → cleared.opened.rules ≡ rules_in bytes → IsAnswer file bytes accepted → IsOpenedFrom file cleared.opened
+-- what was accepted, and the members of its report, in terms of the file and the certificate
+pub accepts_with : (file bytes : List ℕ) (cleared : Cleared) → AnswerLaws → cleared.opened.rules ≡ rules_in bytes → IsAnswer file bytes accepted → IsOpenedFrom file cleared.opened
     → read_certificate bytes ≡ Ok (certificate_of cleared.certificate)
     → CountsRecords (opened_of cleared.opened) cleared.opened.records.now cleared.records cleared.notes.counts cleared.uses
-    → text ≡ report_text (report_of cleared) → ReportsAccepted file bytes text
-reports file bytes cleared text laws rules accepts from read counts is =
+    → AcceptsWith file bytes (members_of cleared)
+accepts_with file bytes cleared laws rules accepts from read counts =
     let answer = answered file bytes cleared rules accepts from read in
     let has : HasContentOf cleared.opened.format cleared.opened.records.now answer.content =
     subst (λ (records : List ℕ). HasContentOf cleared.opened.format records answer.content) (sym from.records) answer.of_records in
@@ -125,11 +125,19 @@ reports file bytes cleared text laws rules accepts from read counts is =
       of_file = record { opens = ap (λ (r : Rules). opened_by r file) (sym rules) ∙ from.opens; records = answer.of_records };
       value = certificate_of cleared.certificate;
       read = read;
-      is_text = is ∙ ap report_text (same_report cleared answer.content has counts fits);
+      are = same_members cleared answer.content has counts fits;
     }
+
+-- the same for the text of the report
+pub reports : (file bytes : List ℕ) (cleared : Cleared) (text : List ℕ) → AnswerLaws → cleared.opened.rules ≡ rules_in bytes → IsAnswer file bytes accepted → IsOpenedFrom file cleared.opened
+    → read_certificate bytes ≡ Ok (certificate_of cleared.certificate)
+    → CountsRecords (opened_of cleared.opened) cleared.opened.records.now cleared.records cleared.notes.counts cleared.uses
+    → text ≡ report_text (object (members_of cleared)) → ReportsAccepted file bytes text
+reports file bytes cleared text laws rules accepts from read counts is =
+    record { members = members_of cleared; accepts = accepts_with file bytes cleared laws rules accepts from read counts; is_text = is }
 
 -- a rejection that isn't a failed allocation
 pub refusal_reports : (file bytes : List ℕ) (r : Refusal) (text : List ℕ) → (IsAnswer file bytes (rejects r.number r.fault) ⊎ IsWantOfMemory r)
-    → (r.fault ≡ OutOfMemory → ⊥) → text ≡ report_text (rejected_report r.number r.fault) → ReportsRejected file bytes text
+    → (r.fault ≡ OutOfMemory → ⊥) → text ≡ report_text (object (rejected_members r.number r.fault)) → ReportsRejected file bytes text
 refusal_reports file bytes r text (inl rejected) other is = record { in_record = r.number; fault = r.fault; rejected = rejected; is_text = is }
 refusal_reports file bytes r text (inr want) other is = absurd (other want.fault)

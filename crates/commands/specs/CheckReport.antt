@@ -29,11 +29,11 @@ needs_data needs =
 abbrev pub with_used : Rules → Uses → Members → Members
 with_used rules uses members = with_allowed rules (uses_data uses.held_deletion uses.emf_plus) (with_profile rules members)
 
--- the report for a certificate that is accepted for a file, with the file's number of records and drawings, its notes,
--- and what it uses, by name
-abbrev pub accepted_report : OpenedValue → CertificateValue → ℕ → ℕ → List ℕ → Uses → Data
-accepted_report o c records drawings notes uses =
-    object (with_used o.rules uses
+-- the members of the report for a certificate that is accepted for a file, with the file's number of records and
+-- drawings, its notes, and what it uses, by name
+abbrev pub accepted_members : OpenedValue → CertificateValue → ℕ → ℕ → List ℕ → Uses → Members
+accepted_members o c records drawings notes uses =
+    with_used o.rules uses
     (put (codes "accepted") (boolean true)
     (put (codes "drawings") (whole drawings)
     (put (codes "format") (string (format_name o.format))
@@ -42,34 +42,40 @@ accepted_report o c records drawings notes uses =
     (put (codes "needs") (needs_data c.needs)
     (put (codes "notes") (notes_data notes)
     (put (codes "records") (whole records)
-    (put (codes "writes") (whole c.writes) no_members))))))))))
+    (put (codes "writes") (whole c.writes) no_members)))))))))
 
--- the report for a rejection: the code and name of the fault, the kind of record that it refers to, and the number of
--- the record that it is in
-abbrev pub rejected_report : Option ℕ → Fault → Data
-rejected_report record_number fault =
-    object (put (codes "accepted") (boolean false)
+-- the members of the report for a rejection: the code and name of the fault, the kind of record that it refers to, and
+-- the number of the record that it is in
+abbrev pub rejected_members : Option ℕ → Fault → Members
+rejected_members record_number fault =
+    put (codes "accepted") (boolean false)
     (put (codes "code") (whole (fault_row fault).code)
     (put (codes "fault") (string (fault_row fault).name)
     (put (codes "number") (whole_if (record_kind_of fault))
-    (put (codes "record") (whole_if record_number) no_members)))))
+    (put (codes "record") (whole_if record_number) no_members))))
 
--- the certificate is accepted for the file, and the text is the report of that
-pub record ReportsAccepted (file certificate text : List ℕ) : Type 0 where
+-- the certificate is accepted for the file, and these are the members of the report of that
+pub record AcceptsWith (file certificate : List ℕ) (members : Members) : Type 0 where
   pub accepted : IsAnswer file certificate accepted
   pub headers : OpenedValue
   pub content : Content
   pub of_file : IsFile (rules_in certificate) file headers content
   pub value : CertificateValue
   pub read : read_certificate certificate ≡ Ok value
-  pub is_text :
-      text
-      ≡ report_text (accepted_report headers value (length content.steps) (length (drawings_of content.steps (start_of headers))) (file_notes content headers)
-      (file_uses content headers))
+  pub are :
+      members
+      ≡ accepted_members headers value (length content.steps) (length (drawings_of content.steps (start_of headers))) (file_notes content headers)
+      (file_uses content headers)
+
+-- the certificate is accepted for the file, and the text is the report of that
+pub record ReportsAccepted (file certificate text : List ℕ) : Type 0 where
+  pub members : Members
+  pub accepts : AcceptsWith file certificate members
+  pub is_text : text ≡ report_text (object members)
 
 -- the pair of file and certificate is rejected, and the text is the report of that
 pub record ReportsRejected (file certificate text : List ℕ) : Type 0 where
   pub in_record : Option ℕ
   pub fault : Fault
   pub rejected : IsAnswer file certificate (rejects in_record fault)
-  pub is_text : text ≡ report_text (rejected_report in_record fault)
+  pub is_text : text ≡ report_text (object (rejected_members in_record fault))

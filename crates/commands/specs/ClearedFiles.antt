@@ -1,7 +1,7 @@
 -- Reports of accepted files, and what is played of them.
 use Rattle.std.specs.Prelude.{◌≡◌, ◌⊎◌, ℕ, List, length, Option, None}
 use Rattle.std.specs.Io.KnownBytes.{Keeps}
-use Rattle.serde_json.specs.Data.{Data}
+use Rattle.serde_json.specs.Data.{Members}
 use Rattle.draw_ops.specs.declared.fault.Fault.{Fault}
 use Rattle.draw_ops.specs.declared.fault.Fault.TheVariants.{OutOfMemory, SurfaceTooLarge}
 use Rattle.mapping.specs.Colours.{white_colour}
@@ -16,14 +16,14 @@ use Rattle.preflight_cert.specs.declared.cleared.Cleared.{Cleared}
 use Rattle.preflight_cert.specs.declared.refusal.Refusal.{Refusal}
 use Rattle.player.specs.Bands.{WritesRun, WritesRunPrefix}
 use Rattle.player.specs.Bounds.{IsAboveBound, IsWithinBound}
-use Rattle.commands.specs.CheckReport.{accepted_report}
+use Rattle.commands.specs.CheckReport.{accepted_members}
 use Rattle.commands.specs.declared.failure.Failure.{Failure}
 use Rattle.commands.specs.declared.failure.Failure.TheVariants as why
 
--- the report for a file and certificate that were accepted
-abbrev pub report_of : Cleared → Data
-report_of cleared =
-    accepted_report (opened_of cleared.opened) (certificate_of cleared.certificate) cleared.records
+-- the members of the report for a file and certificate that were accepted
+abbrev pub members_of : Cleared → Members
+members_of cleared =
+    accepted_members (opened_of cleared.opened) (certificate_of cleared.certificate) cleared.records
     (length (entries_of cleared.certificate.entries)) cleared.notes.counts cleared.uses
 
 -- the run of the opened file, at this size, makes the image from the start image

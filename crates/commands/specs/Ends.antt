@@ -75,6 +75,7 @@ WritesBy end.WrongUsage task old new = ⊥
 WritesBy end.Help task old new = ⊥
 WritesBy end.OutIsFile task old new = ⊥
 WritesBy end.CannotRead task old new = ⊥
+WritesBy end.CannotStore task old new = ⊥
 
 -- the line for the task's rejection was reported
 pub record PrintsRefusal (task : Task) (printed : Printed) (old new : Option (List ℕ)) : Type 0 where
@@ -98,6 +99,7 @@ PrintsBy end.WrongUsage task printed old new = ⊥
 PrintsBy end.Help task printed old new = ⊥
 PrintsBy end.OutIsFile task printed old new = ⊥
 PrintsBy end.CannotRead task printed old new = ⊥
+PrintsBy end.CannotStore task printed old new = ⊥
 
 module _ {W : Type 0} where
   -- a text with some property, or a prefix of one, was written to a writer with these contents

@@ -1,3 +1,7 @@
+pub mod BatchLines
+pub mod CertifyLines
+pub mod CertifyReport
+pub mod Certifying
 pub mod CheckReport
 pub mod ClearedFiles
 pub mod Ends
@@ -10,10 +14,12 @@ pub mod Inputs
 pub mod Lines
 pub mod Listings
 pub mod Outputs
+pub mod PlainFiles
 pub mod Reading
 pub mod Report
 pub mod Reported
 pub mod Statuses
 pub mod Stored
+pub mod Storing
 pub mod Tasks
 pub mod VersionLines

@@ -5,9 +5,9 @@ use Rattle.std.specs.Io.KnownBytes.{Keeps}
 use Rattle.clap.specs.Words.{Text}
 use Rattle.command_lines.specs.CommandLine.{HoldsOfAsked, texts_of}
 use Rattle.command_lines.specs.HelpWords.{AsksHelp}
-use Rattle.command_lines.specs.InfoWords.{AreAccepted, AreCommandWords, HoldsOfNames, HoldsOfSomeNames}
+use Rattle.command_lines.specs.BatchWords.{AreAccepted, AreCommandWords, HoldsOfNames, HoldsOfSomeNames}
 use Rattle.commands.specs.Ends.{PrintsBy, WritesBy}
-use Rattle.commands.specs.InfoLines.{InfoPrints, InfoWrites}
+use Rattle.commands.specs.BatchLines.{BatchPrints, BatchWrites}
 use Rattle.commands.specs.Fitting.{asked_height, asked_width}
 use Rattle.commands.specs.Inputs.{IsInput, standard_input}
 use Rattle.commands.specs.Report.{Reports, PrintsNothing, Printed}
@@ -15,7 +15,7 @@ use Rattle.commands.specs.VersionLines.{VersionPrints, VersionWrites}
 use Rattle.commands.specs.declared.program.Call.{Call}
 use Rattle.command_lines.specs.VersionWords.{AreVersionWords}
 use Rattle.command_lines.specs.Dimensions.{HoldsOfSome, file_of}
-use Rattle.draw_ops.specs.declared.rules.Rules.{Rules}
+use Rattle.command_lines.specs.declared.asked.BatchTask.{BatchTask}
 use Rattle.meta_headers.specs.Opening.{opened}
 use Rattle.commands.specs.Tasks.{Task, check, list, over, play, prepare, show}
 use Rattle.commands.specs.declared.command_end.Completion.{Completion}
@@ -77,6 +77,7 @@ OutBy end.CannotWrite line input old new = LeavesOut line input end.CannotWrite 
 OutBy end.CannotRead line input old new = Keeps old new
 OutBy end.OutOfMemory line input old new = Keeps old new
 OutBy end.OutIsFile line input old new = PreparesNamedFile line × Keeps old new
+OutBy end.CannotStore line input old new = ⊥
 OutBy end.WrongUsage line input old new = ⊥
 OutBy end.Help line input old new = ⊥
 
@@ -88,26 +89,27 @@ ErrBy end.CannotWrite line input printed old new = Reports printed old new (code
 ErrBy end.CannotRead line input printed old new = Reports printed old new (codes "cannot read")
 ErrBy end.OutOfMemory line input printed old new = Reports printed old new (codes "OutOfMemory")
 ErrBy end.OutIsFile line input printed old new = PreparesNamedFile line × Reports printed old new (codes "OUT is FILE")
+ErrBy end.CannotStore line input printed old new = ⊥
 ErrBy end.WrongUsage line input printed old new = ⊥
 ErrBy end.Help line input printed old new = ⊥
 
--- something holds for what the words ask for: a command on one file, information about files, or the version
-abbrev pub HoldsOfWords : List Text → (CommandLine → Type 0) → (List Text → Rules → Type 0) → Type 0 → Type 0
+-- something holds for what the words ask for: a command on one file, a task on several, or the version
+abbrev pub HoldsOfWords : List Text → (CommandLine → Type 0) → (List Text → BatchTask → Type 0) → Type 0 → Type 0
 HoldsOfWords words of_line of_names of_version = HoldsOfAsked words of_line ⊎ (HoldsOfNames words of_names ⊎ (AreVersionWords words × of_version))
 
 -- something holds for one of these
-abbrev pub HoldsOfAny : (CommandLine → Type 0) → (List Text → Rules → Type 0) → Type 0 → Type 0
+abbrev pub HoldsOfAny : (CommandLine → Type 0) → (List Text → BatchTask → Type 0) → Type 0 → Type 0
 HoldsOfAny of_line of_names of_version = HoldsOfSome of_line ⊎ (HoldsOfSomeNames of_names ⊎ of_version)
 
 -- What the program writes to standard output for its words: nothing if they are wrong usage, the help if they ask for
--- that, whatever its text, and otherwise what the command that they ask for writes. If an allocation failed, only `info`
--- may have written something.
+-- that, whatever its text, and otherwise what the command that they ask for writes. If an allocation failed, only a task on several
+-- files may have written something.
 abbrev pub OutOfWords : CommandEnd → List Text → Option (List ℕ) → List ℕ → Option (List ℕ) → Option (List ℕ) → Type 0
 OutOfWords end.WrongUsage words input version old new = Keeps old new
 OutOfWords end.Help words input version old new = ⊤
-OutOfWords end.OutOfMemory words input version old new = Keeps old new ⊎ HoldsOfNames words (λ names rules. InfoWrites end.OutOfMemory names rules input old new)
+OutOfWords end.OutOfMemory words input version old new = Keeps old new ⊎ HoldsOfNames words (λ names task. BatchWrites end.OutOfMemory names task input old new)
 OutOfWords end words input version old new =
-    HoldsOfWords words (λ line. OutBy end line input old new) (λ names rules. InfoWrites end names rules input old new) (VersionWrites end version old new)
+    HoldsOfWords words (λ line. OutBy end line input old new) (λ names task. BatchWrites end names task input old new) (VersionWrites end version old new)
 
 -- What the program reports on standard error for its words: what is wrong with them, whatever the text; nothing beside
 -- help; and otherwise what the command that they ask for reports.
@@ -116,22 +118,22 @@ ErrOfWords end.WrongUsage words input printed old new = ⊤
 ErrOfWords end.Help words input printed old new = Keeps old new
 ErrOfWords end.OutOfMemory words input printed old new = Reports printed old new (codes "OutOfMemory")
 ErrOfWords end words input printed old new =
-    HoldsOfWords words (λ line. ErrBy end line input printed old new) (λ names rules. InfoPrints end printed old new) (VersionPrints end printed old new)
+    HoldsOfWords words (λ line. ErrBy end line input printed old new) (λ names task. BatchPrints end printed old new) (VersionPrints end printed old new)
 
 -- what the program writes to standard output, or reports on standard error, for some words
 abbrev pub OutOfSome : CommandEnd → Option (List ℕ) → List ℕ → Option (List ℕ) → Option (List ℕ) → Type 0
 OutOfSome end.WrongUsage input version old new = Keeps old new
 OutOfSome end.Help input version old new = ⊤
-OutOfSome end.OutOfMemory input version old new = Keeps old new ⊎ HoldsOfSomeNames (λ names rules. InfoWrites end.OutOfMemory names rules input old new)
+OutOfSome end.OutOfMemory input version old new = Keeps old new ⊎ HoldsOfSomeNames (λ names task. BatchWrites end.OutOfMemory names task input old new)
 OutOfSome end input version old new =
-    HoldsOfAny (λ line. OutBy end line input old new) (λ names rules. InfoWrites end names rules input old new) (VersionWrites end version old new)
+    HoldsOfAny (λ line. OutBy end line input old new) (λ names task. BatchWrites end names task input old new) (VersionWrites end version old new)
 
 abbrev pub ErrOfSome : CommandEnd → Option (List ℕ) → Printed → Option (List ℕ) → Option (List ℕ) → Type 0
 ErrOfSome end.WrongUsage input printed old new = ⊤
 ErrOfSome end.Help input printed old new = Keeps old new
 ErrOfSome end.OutOfMemory input printed old new = Reports printed old new (codes "OutOfMemory")
 ErrOfSome end input printed old new =
-    HoldsOfAny (λ line. ErrBy end line input printed old new) (λ names rules. InfoPrints end printed old new) (VersionPrints end printed old new)
+    HoldsOfAny (λ line. ErrBy end line input printed old new) (λ names task. BatchPrints end printed old new) (VersionPrints end printed old new)
 
 -- the words prepare a certificate of a named file
 abbrev pub PreparesNamed : Call → Type 0

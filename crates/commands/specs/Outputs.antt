@@ -31,27 +31,31 @@ module _ {W : Type 0} where
 
   -- the output of the command failed, or was flushed, for a command that the words ask for
   abbrev pub FailsAsked : Call → (W → ℕ) → W → W → Type 0
-  FailsAsked call count old new = HoldsOfWords (texts_of call.words.now) (OutputFailed count old new) (λ names rules. Rises count old new) (Rises count old new)
+  FailsAsked call count old new = HoldsOfWords (texts_of call.words.now) (OutputFailed count old new) (λ names task. Rises count old new) (Rises count old new)
 
   abbrev pub FlushesAsked : Call → (W → Bool) → W → W → Type 0
-  FlushesAsked call flushed old new = HoldsOfWords (texts_of call.words.now) (OutputFlushed flushed old new) (λ names rules. flushed new ≡ true) (flushed new ≡ true)
+  FlushesAsked call flushed old new = HoldsOfWords (texts_of call.words.now) (OutputFlushed flushed old new) (λ names task. flushed new ≡ true) (flushed new ≡ true)
 
-  -- the same if the file, or one of `info`, was rejected, and if a file wasn't read; the version is neither
+  -- the same if the file, or one of several, was rejected, and if a file wasn't read; the version is neither
   abbrev pub FlushesRejected : Call → (W → Bool) → W → Type 0
-  FlushesRejected call flushed new = HoldsOfWords (texts_of call.words.now) (RejectedFlushed flushed new) (λ names rules. flushed new ≡ true) ⊥
+  FlushesRejected call flushed new = HoldsOfWords (texts_of call.words.now) (RejectedFlushed flushed new) (λ names task. flushed new ≡ true) ⊥
 
   abbrev pub FlushesUnread : Call → (W → Bool) → W → Type 0
-  FlushesUnread call flushed new = HoldsOfWords (texts_of call.words.now) (λ line. ⊤) (λ names rules. flushed new ≡ true) ⊥
+  FlushesUnread call flushed new = HoldsOfWords (texts_of call.words.now) (λ line. ⊤) (λ names task. flushed new ≡ true) ⊥
+
+  -- and if a certificate of several wasn't stored
+  abbrev pub FlushesUnstored : Call → (W → Bool) → W → Type 0
+  FlushesUnstored call flushed new = HoldsOfWords (texts_of call.words.now) (λ line. ⊥) (λ names task. flushed new ≡ true) ⊥
 
   -- for some command
   abbrev pub FailsSome : (W → ℕ) → W → W → Type 0
-  FailsSome count old new = HoldsOfAny (OutputFailed count old new) (λ names rules. Rises count old new) (Rises count old new)
+  FailsSome count old new = HoldsOfAny (OutputFailed count old new) (λ names task. Rises count old new) (Rises count old new)
 
   abbrev pub FlushesSome : (W → Bool) → W → W → Type 0
-  FlushesSome flushed old new = HoldsOfAny (OutputFlushed flushed old new) (λ names rules. flushed new ≡ true) (flushed new ≡ true)
+  FlushesSome flushed old new = HoldsOfAny (OutputFlushed flushed old new) (λ names task. flushed new ≡ true) (flushed new ≡ true)
 
   abbrev pub FlushesSomeRejected : (W → Bool) → W → Type 0
-  FlushesSomeRejected flushed new = HoldsOfAny (RejectedFlushed flushed new) (λ names rules. flushed new ≡ true) ⊥
+  FlushesSomeRejected flushed new = HoldsOfAny (RejectedFlushed flushed new) (λ names task. flushed new ≡ true) ⊥
 
   -- unless it is the help, the message can be incomplete only because standard error failed
   abbrev pub IsUnreported : Completion → (W → ℕ) → W → W → Type 0

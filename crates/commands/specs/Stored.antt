@@ -3,17 +3,18 @@ use Rattle.std.specs.Prelude.{◌≡◌, List, ℕ, Option, true}
 use Rattle.std.specs.Io.KnownBytes.{Appends}
 use Rattle.commands.specs.declared.output.Finish.{Finish}
 use Rattle.commands.specs.declared.output.Written.{Written}
-use Rattle.commands.specs.declared.output.Written.TheVariants.{Beside, InPlace}
+use Rattle.commands.specs.declared.output.Written.TheVariants.{Beside, InPlace, New}
 
 -- a new file was flushed after its last byte, was then written to the disk, and then got its name
 pub record IsStored (finish : Finish) : Type 0 where
   pub flushed : finish.flushed ≡ true
   pub synced : finish.synced ≡ true
-  pub renamed : finish.renamed ≡ true
+  pub named : finish.named ≡ true
 
 -- all was done with a file: one that is written in place has its name already
 abbrev pub IsFinished : Written → Finish → Type 0
 IsFinished Beside finish = IsStored finish
+IsFinished New finish = IsStored finish
 IsFinished InPlace finish = finish.flushed ≡ true
 
 module _ {F : Type 0} where

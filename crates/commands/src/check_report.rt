@@ -1,10 +1,11 @@
 //! The report of a check, as JSON.
 
 ghost use Rattle.std.specs.Prelude.{◌≡◌, IfOk, OnOk};
+ghost use Rattle.serde_json.specs.Data.{object};
 ghost use Rattle.serde_json.specs.View.{members_view, view};
 ghost use Rattle.report_parts.specs.Parts.{report_text};
-ghost use Rattle.commands.specs.CheckReport.{needs_data, rejected_report, with_used};
-ghost use Rattle.commands.specs.ClearedFiles.{report_of};
+ghost use Rattle.commands.specs.CheckReport.{needs_data, rejected_members, with_used};
+ghost use Rattle.commands.specs.ClearedFiles.{members_of};
 
 use dc_stack::Needs;
 use draw_ops::Rules;
@@ -18,15 +19,18 @@ use std::alloc::{AllocError, Global};
 
 /// The text of the report for an accepted certificate.
 pub(crate) fn accepted_report(alloc: Global, cleared: &Cleared<'_>) -> Result<Vec<u8>, AllocError>
-    ensures { IfOk result (λ text. text.items ≡ report_text (report_of cleared.now)) }
+    ensures { IfOk result (λ text. text.items ≡ report_text (object (members_of cleared.now))) }
 {
-    let report = accepted_value(alloc, cleared)?;
-    report_text_of(alloc, &report)
+    let members = accepted_members(alloc, cleared)?;
+    report_text_of(alloc, &Value::from(members))
 }
 
-/// The report for an accepted certificate.
-fn accepted_value(alloc: Global, cleared: &Cleared<'_>) -> Result<Value, AllocError>
-    ensures { IfOk result (λ value. view value ≡ report_of cleared.now) }
+/// The members of the report for an accepted certificate.
+pub(crate) fn accepted_members(
+    alloc: Global,
+    cleared: &Cleared<'_>,
+) -> Result<Map<String, Value>, AllocError>
+    ensures { IfOk result (λ members. members_view members.entries ≡ members_of cleared.now) }
 {
     let certificate = cleared.certificate;
     let format = cleared.opened.format.name();
@@ -49,7 +53,7 @@ fn accepted_value(alloc: Global, cleared: &Cleared<'_>) -> Result<Value, AllocEr
     put_number(&mut members, alloc, "drawings", certificate.len() as u64)?;
     put(&mut members, alloc, "accepted", Value::from(true))?;
     put_used(&mut members, alloc, cleared.opened.rules, cleared.uses)?;
-    Ok(Value::from(members))
+    Ok(members)
 }
 
 /// Under the print profile, adds the profile, and what a file uses of what the rules allow.
@@ -80,15 +84,18 @@ fn needs_value(alloc: Global, needs: Needs) -> Result<Value, AllocError>
 
 /// The text of the report for a rejection.
 pub(crate) fn rejected_report(alloc: Global, refusal: Refusal) -> Result<Vec<u8>, AllocError>
-    ensures { IfOk result (λ text. text.items ≡ report_text (rejected_report refusal.number refusal.fault)) }
+    ensures { IfOk result (λ text. text.items ≡ report_text (object (rejected_members refusal.number refusal.fault))) }
 {
-    let report = rejected_value(alloc, refusal)?;
-    report_text_of(alloc, &report)
+    let members = rejected_members(alloc, refusal)?;
+    report_text_of(alloc, &Value::from(members))
 }
 
-/// The report for a rejection.
-fn rejected_value(alloc: Global, refusal: Refusal) -> Result<Value, AllocError>
-    ensures { IfOk result (λ value. view value ≡ rejected_report refusal.number refusal.fault) }
+/// The members of the report for a rejection.
+pub(crate) fn rejected_members(
+    alloc: Global,
+    refusal: Refusal,
+) -> Result<Map<String, Value>, AllocError>
+    ensures { IfOk result (λ members. members_view members.entries ≡ rejected_members refusal.number refusal.fault) }
 {
     let fault = refusal.fault;
     let mut members = Map::new(alloc);
@@ -97,5 +104,5 @@ fn rejected_value(alloc: Global, refusal: Refusal) -> Result<Value, AllocError>
     put_text(&mut members, alloc, "fault", fault.name())?;
     put_number(&mut members, alloc, "code", u64::from(fault.code()))?;
     put(&mut members, alloc, "accepted", Value::from(false))?;
-    Ok(Value::from(members))
+    Ok(members)
 }

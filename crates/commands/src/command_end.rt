@@ -19,13 +19,15 @@ pub enum CommandEnd {
     CannotRead,
     /// An output can't be written.
     CannotWrite,
+    /// One of several certificates can't be written, or something else has its name.
+    CannotStore,
     /// Out of memory.
     OutOfMemory,
 }
 
 impl CommandEnd {
     ghost use Rattle.std.specs.Prelude.{◌≡◌};
-    ghost use Rattle.commands.specs.InfoLines.{worse};
+    ghost use Rattle.commands.specs.BatchLines.{worse};
     ghost use Rattle.commands.specs.Statuses.{status_of};
 
     /// The end with the higher status, or this one if both have the same.
@@ -47,7 +49,7 @@ impl CommandEnd {
             CommandEnd::Done => 0,
             CommandEnd::Rejected => 1,
             CommandEnd::WrongUsage | CommandEnd::Help | CommandEnd::OutIsFile => 2,
-            CommandEnd::CannotRead | CommandEnd::CannotWrite => 3,
+            CommandEnd::CannotRead | CommandEnd::CannotWrite | CommandEnd::CannotStore => 3,
             CommandEnd::OutOfMemory => 4,
         }
     }

@@ -1,9 +1,9 @@
-//! The line about a file.
+//! The line of `info` about a file.
 
 ghost use Rattle.std.specs.Prelude.{◌≡◌, ◌≢◌, IfOk};
 ghost use Rattle.std.specs.Io.KnownBytes.{Keeps};
 ghost use Rattle.file_info.specs.Info.{is_playing};
-ghost use Rattle.commands.specs.InfoLines.{IsLineBy, IsLineOfBytes, IsUnreadLine, read_end};
+ghost use Rattle.commands.specs.InfoLines.{IsInfoLine, IsLineOfBytes, IsUnreadLine, read_end};
 ghost use Rattle.commands.specs.Inputs.{standard_input};
 
 use crate::command_end::CommandEnd;
@@ -30,7 +30,7 @@ pub(crate) fn file_line<R: Files + AllocGlobal, I: Read>(
     name: &str,
     input: &mut I,
 ) -> Result<FileLine, AllocError>
-    ensures line { IfOk result (λ it. IsLineBy it.end rules name.entry.now (I.remaining input.old) it.text.items) }
+    ensures line { IfOk result (λ it. IsInfoLine it.end rules name.entry.now (I.remaining input.old) it.text.items) }
     ensures unread { name.entry.now ≢ standard_input → Keeps (I.remaining input.old) (I.remaining input.new) }
 {
     match read_file(rt, name, input) {

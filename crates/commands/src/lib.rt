@@ -45,6 +45,13 @@
 //!   there was a line to write and the writer failed: no line of the program is too long (`report_refusal`).
 #![tactic(auto)]
 
+mod batch;
+mod batch_line;
+mod certificate_path;
+mod certified;
+mod certify;
+mod certify_report;
+mod certifying;
 mod check;
 mod check_report;
 mod command_end;
@@ -52,13 +59,13 @@ mod failure;
 mod file_line;
 mod fitting;
 mod image_output;
-mod info;
 mod input;
 mod inputs;
 mod list;
 mod output;
 mod output_path;
 mod over;
+mod plain_file;
 mod play;
 mod playing;
 mod prepare;
@@ -68,11 +75,13 @@ mod reporting;
 mod same_file;
 mod show;
 mod shown;
+mod storing;
 mod version;
+mod words;
 
+pub use batch::batch_command;
 pub use check::check_command;
 pub use command_end::{CommandEnd, Completion};
-pub use info::info_command;
 pub use input::{InputFault, read_input};
 pub use inputs::read_file;
 pub use list::{list_command, list_command_by};

@@ -28,6 +28,8 @@ const ACCESS: u32 = 0o777;
 pub(crate) enum Written {
     /// A new file beside the named one, which gets its name when it is whole.
     Beside,
+    /// A new file, which gets its name when it is whole, unless something has that name by then.
+    New,
     /// The named file itself, which is no plain file (a link, a device or a FIFO).
     InPlace,
 }
@@ -39,7 +41,7 @@ pub(crate) struct Finish {
     /// Whether it is on the disk.
     pub(crate) synced: bool,
     /// Whether it got the name.
-    pub(crate) renamed: bool,
+    pub(crate) named: bool,
 }
 
 impl Finish {
@@ -47,7 +49,7 @@ impl Finish {
     const NONE: Finish = Finish {
         flushed: false,
         synced: false,
-        renamed: false,
+        named: false,
     };
 }
 
@@ -78,7 +80,7 @@ impl<'a, R: Files> NamedOutput<'a, R> {
                 {
                     Ok(()) => Ok(output),
                     Err(error) => {
-                        output.remove_unfinished();
+                        output.remove_first_name();
                         Err(error)
                     }
                 }
@@ -94,6 +96,13 @@ impl<'a, R: Files> NamedOutput<'a, R> {
                 })
             }
         }
+    }
+
+    /// Creates a new file that gets its name only if nothing has it then.
+    pub(crate) fn open_new(rt: &'a R, path: OutputPath<'a>) -> io::Result<NamedOutput<'a, R>> {
+        let mut output = NamedOutput::beside(rt, path, NEW_MODE)?;
+        output.written = Written::New;
+        Ok(output)
     }
 
     /// Creates a new file with this mode in the same folder, under the first free name.
@@ -127,11 +136,14 @@ impl<'a, R: Files> NamedOutput<'a, R> {
     {
         self.append(text)?;
         self.flush()?;
-        if self.written == Written::Beside {
-            self.sync()?;
-            self.rename()?;
+        if self.written == Written::InPlace {
+            return Ok(());
         }
-        Ok(())
+        self.sync()?;
+        if self.written == Written::New {
+            return self.link();
+        }
+        self.rename()
     }
 
     /// Writes a text to the open file.
@@ -167,17 +179,40 @@ impl<'a, R: Files> NamedOutput<'a, R> {
     fn rename(&mut self) -> Result<(), WriteFault>
         requires synced { self.old.finish.synced ≡ true }
         ensures file { self.new.file ≡ self.old.file }
-        ensures done { OnOk result (self.new.finish ≡ record self.old.finish { renamed = true }) }
+        ensures done { OnOk result (self.new.finish ≡ record self.old.finish { named = true }) }
     {
         let renamed = fs::rename(self.rt, self.path.path.as_str(), self.path.name);
         renamed.map_err(|_| WriteFault)?;
-        self.finish.renamed = true;
+        self.finish.named = true;
         Ok(())
     }
 
-    /// Removes a new file that hasn't got the name.
-    pub(crate) fn remove_unfinished(&self) {
-        if self.written == Written::Beside && !self.finish.renamed {
+    /// Gives the new file, which is on the disk, its name, unless something has that name. Where the file system has no
+    /// links, nothing had the name a moment before.
+    fn link(&mut self) -> Result<(), WriteFault>
+        requires synced { self.old.finish.synced ≡ true }
+        ensures file { self.new.file ≡ self.old.file }
+        ensures done { OnOk result (self.new.finish ≡ record self.old.finish { named = true }) }
+    {
+        match fs::hard_link(self.rt, self.path.path.as_str(), self.path.name) {
+            Ok(()) => {
+                self.finish.named = true;
+                Ok(())
+            }
+            Err(_) => match what_has_name(self.rt, self.path.name) {
+                Ok(Named::Nothing) => {
+                    self.written = Written::Beside;
+                    self.rename()
+                }
+                Ok(_) | Err(_) => Err(WriteFault),
+            },
+        }
+    }
+
+    /// Removes the first name of a new file. A file that was renamed has no other.
+    pub(crate) fn remove_first_name(&self) {
+        let is_renamed = self.written == Written::Beside && self.finish.named;
+        if self.written != Written::InPlace && !is_renamed {
             let _ = fs::remove_file(self.rt, self.path.path.as_str());
         }
     }

@@ -144,7 +144,7 @@ fn store_prepared<R: Files + AllocGlobal>(
     match NamedOutput::open(rt, path) {
         Ok(mut output) => {
             let stored = output.store(prepared.text.as_slice());
-            output.remove_unfinished();
+            output.remove_first_name();
             stored.map_err(|_| Failure::CannotWrite)
         }
         Err(_) => Err(Failure::CannotWrite),

@@ -4,7 +4,7 @@ ghost use Rattle.std.specs.Prelude.{◌≡◌, ◌≢◌, ◌↔◌, ◌-◌, �
 ghost use Rattle.std.specs.Io.KnownBytes.{Keeps};
 ghost use Rattle.clap.specs.Words.{kind_of};
 ghost use Rattle.commands.specs.Outputs.{FailsAsked, FailsSome, IsUnreported, OutputFailed, Rises};
-ghost use Rattle.commands.specs.Outputs.{FlushesAsked, FlushesRejected, FlushesSome, FlushesSomeRejected, FlushesUnread, OutputFlushed, RejectedFlushed};
+ghost use Rattle.commands.specs.Outputs.{FlushesAsked, FlushesRejected, FlushesSome, FlushesSomeRejected, FlushesUnread, FlushesUnstored, OutputFlushed, RejectedFlushed};
 ghost use Rattle.commands.specs.Statuses.{status_of};
 ghost use Rattle.commands.specs.Faults.{IsUsageEnd, input_end, fault_text};
 ghost use Rattle.commands.specs.Lines.{TaskPrints, TaskWrites, PrintsAsked, PrintsLine, PrintsMemory, PrintsSome};
@@ -14,10 +14,10 @@ ghost use Rattle.commands.specs.Lines.{WritesAsked, WritesLine, WritesSome};
 ghost use Rattle.commands.specs.Report.{Reports};
 ghost use Rattle.command_lines.specs.Dimensions.{HasDimensions, file_of};
 
+use crate::batch::batch_command;
 use crate::check::check_command;
 use crate::command_end::{CommandEnd, Completion};
 use crate::fitting::asked_sides;
-use crate::info::info_command;
 use crate::input::InputFault;
 use crate::inputs::{Inputs, read_inputs};
 use crate::list::list_command_by;
@@ -29,12 +29,12 @@ use crate::same_file::{ComparedLine, compared};
 use crate::show::show_command_by;
 use crate::shown::show_error;
 use crate::version::version_command;
+use crate::words::{has_right_marks, read_words};
 use canvas::FaultCount;
 use clap::error::ErrorKind;
 use command_lines::{Asked, CommandLine, line};
 use proportions::Sides;
-use std::alloc::Global;
-use std::env;
+use std::alloc::{AllocError, Global};
 use std::io::Read;
 use std::rt::{Env, Files};
 
@@ -65,19 +65,14 @@ where
     ensures unreported { IsUnreported result E.fault_count err.old err.new }
     ensures unshown { result.end ≡ CommandEnd.Help → OnErr result.printed (Rises O.fault_count out.old out.new) }
 {
-    match words(rt) {
-        Ok(words) => {
-            let words = words.as_slice();
-            run_words(Call { words, version }, rt, input, out, err)
-        }
-        Err(InputFault::OutOfMemory) => Completion {
-            end: CommandEnd::OutOfMemory,
-            printed: report(err, "OutOfMemory"),
-        },
-        Err(InputFault::CannotRead) => Completion {
-            end: CommandEnd::WrongUsage,
-            printed: report(err, "the command line is not UTF-8 text"),
-        },
+    let Ok(read) = read_words(rt) else {
+        return no_input(InputFault::OutOfMemory, err);
+    };
+    let words = read.words.as_slice();
+    match has_right_marks(rt.alloc(), words, read.marked) {
+        Ok(true) => run_words(Call { words, version }, rt, input, out, err),
+        Ok(false) => not_text(err),
+        Err(AllocError) => no_input(InputFault::OutOfMemory, err),
     }
 }
 
@@ -108,13 +103,14 @@ where
     ensures flushed { result.end ≡ CommandEnd.Done → FlushesAsked call.entry O.is_flushed out.old out.new }
     ensures rejected { result.end ≡ CommandEnd.Rejected → FlushesRejected call.entry O.is_flushed out.new }
     ensures unread { result.end ≡ CommandEnd.CannotRead → FlushesUnread call.entry O.is_flushed out.new }
+    ensures unstored { result.end ≡ CommandEnd.CannotStore → FlushesUnstored call.entry O.is_flushed out.new }
     ensures unreported { IsUnreported result E.fault_count err.old err.new }
     ensures unshown { result.end ≡ CommandEnd.Help → OnErr result.printed (Rises O.fault_count out.old out.new) }
 {
     match line(rt.alloc(), call.words) {
         Ok(Asked::Command(line)) => perform(rt, compared(rt, line), input, out, err),
-        Ok(Asked::Info { names, rules }) => {
-            info_command(rt, rules, names.as_slice(), input, out, err)
+        Ok(Asked::Batch { names, task }) => {
+            batch_command(rt, task, names.as_slice(), input, out, err)
         }
         Ok(Asked::Version) => version_command(call.version, out, err),
         Err(error) => usage(&error, out, err),
@@ -227,12 +223,16 @@ fn run_task<R: Files + AllocGlobal, O: FaultCount, E: FaultCount>(
     }
 }
 
-/// The words of the command line, the program's name first. `CannotRead` if one of them isn't UTF-8.
-fn words<R: Env + AllocGlobal>(rt: &R) -> Result<Vec<String>, InputFault> {
-    let words = env::args(rt).map_err(InputFault::of)?;
-    words
-        .collect(rt.alloc())
-        .map_err(|_| InputFault::OutOfMemory)
+/// Reports that a word isn't UTF-8, where only names of several files may be so.
+fn not_text<E: FaultCount>(err: &mut E) -> Completion
+    requires capacity { E.fault_count err.old < 2 ^ 64 - 1 }
+    ensures end { result.end ≡ CommandEnd.WrongUsage }
+    ensures unreported { OnErr result.printed (E.fault_count err.old < E.fault_count err.new) }
+{
+    Completion {
+        end: CommandEnd::WrongUsage,
+        printed: report(err, "the command line is not UTF-8 text"),
+    }
 }
 
 /// Reports that an input wasn't read.

@@ -38,7 +38,7 @@ fn prepared_names<'a>(line: CommandLine<'a>) -> Option<(&'a str, &'a str)>
 }
 
 /// Whether both names lead to the same file: the names may differ, and one of them may be a link.
-fn are_of_one_file<R: Files>(rt: &R, one: &str, other: &str) -> bool {
+pub(crate) fn are_of_one_file<R: Files>(rt: &R, one: &str, other: &str) -> bool {
     match (fs::metadata(rt, one), fs::metadata(rt, other)) {
         (Ok(one), Ok(other)) => one.dev() == other.dev() && one.ino() == other.ino(),
         _ => false,

@@ -6,10 +6,10 @@ use Rattle.serde_json.specs.Written.{comma_if, compact_text, has_float, items_te
 use Rattle.mapping.specs.declared.geometry.Rect.{Rect}
 use Rattle.draw_ops.specs.RuleSets.{is_print}
 use Rattle.meta_headers.specs.declared.opened.FileFormat.{FileFormat}
-use Rattle.report_parts.specs.Parts.{notes_data, report_text, whole_if}
-use Rattle.report_parts.specs.Whole.{if_whole, notes_whole, profile_whole, put_whole}
+use Rattle.report_parts.specs.Parts.{notes_data, report_text, text_if, whole_if}
+use Rattle.report_parts.specs.Whole.{if_whole, notes_whole, profile_whole, put_whole, text_whole}
 use Rattle.file_info.specs.Info.{is_playing}
-use Rattle.file_info.specs.InfoReport.{axes_data, box_data, counted_items, dots_if, drawings_if, emf_frame_if, fault_if, first_members, format_data, frame_data, info_line, joined, kind_if, last_members, name_if, objects_if, paper_if, record_if, records_data, text_if, uses_if}
+use Rattle.file_info.specs.InfoReport.{axes_data, box_data, counted_items, dots_if, drawings_if, emf_frame_if, fault_if, first_members, format_data, frame_data, info_line, joined, kind_if, last_members, name_if, objects_if, paper_if, record_if, records_data, uses_if}
 use Rattle.file_info.specs.JoinedText.{PutsFaults, faults_text}
 use Rattle.file_info.specs.declared.info.FileInfo.{FileInfo}
 use Rattle.file_info.specs.declared.paper.Axes.{Axes}
@@ -129,10 +129,6 @@ frame_whole (Some sizes) = refl
 axes_whole : (axes : Option Axes) → has_float (axes_data axes) ≡ false
 axes_whole None = refl
 axes_whole (Some axes) = refl
-
-text_whole : (text : Option (List ℕ)) → has_float (text_if text) ≡ false
-text_whole None = refl
-text_whole (Some text) = refl
 
 pub last_whole : (name : List ℕ) (info : FileInfo) → has_float (object (last_members name info)) ≡ false
 last_whole name info =

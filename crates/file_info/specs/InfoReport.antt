@@ -8,7 +8,7 @@ use Rattle.meta_headers.specs.Formats.{format_name}
 use Rattle.meta_headers.specs.declared.opened.FileFormat.{FileFormat}
 use Rattle.draw_ops.specs.declared.rules.Rules.{Rules}
 use Rattle.listing.specs.RecordNames.{record_name}
-use Rattle.report_parts.specs.Parts.{notes_data, pair, report_text, whole, whole_if}
+use Rattle.report_parts.specs.Parts.{notes_data, pair, report_text, text_if, whole, whole_if}
 use Rattle.report_parts.specs.Profile.{uses_data, with_allowed, with_profile}
 use Rattle.file_info.specs.Info.{is_playing}
 use Rattle.file_info.specs.declared.fault_count.FaultCount.{FaultCount}
@@ -22,11 +22,6 @@ use Rattle.file_info.specs.declared.playing.Playing.TheVariants.{Plays, Stops}
 abbrev pub signed : ℤ → Data
 signed (pos n) = number (unsigned n)
 signed (negsuc n) = number (negative (negsuc n))
-
--- a text, or null if there is none
-abbrev pub text_if : Option (List ℕ) → Data
-text_if None = null
-text_if (Some text) = string text
 
 -- the name of a format, or null if there is none
 abbrev pub format_data : Option FileFormat → Data

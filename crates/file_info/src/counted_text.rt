@@ -8,10 +8,10 @@ ghost use Rattle.file_info.specs.JoinedText.{item_text};
 
 use crate::fault_count::FaultCount;
 use crate::fault_counts::FaultCounts;
-use crate::playing_values::{name_of, number_value, text_value};
+use crate::playing_values::kind_name;
 use meta_headers::FileFormat;
-use report_parts::compact_text_of;
-use serde_json::{Value, json};
+use report_parts::{compact_text_of, put_number, put_number_if, put_text, put_text_if};
+use serde_json::{Map, Value};
 use std::alloc::{AllocError, Global};
 
 /// Appends an object for each fault that was counted, with commas between them, and a closing bracket.
@@ -60,12 +60,10 @@ fn counted_value(
     ensures { IfOk result (λ value. view value ≡ counted_data format counted) }
 {
     let kind = counted.fault.number();
-    let number = number_value(kind);
-    let name = text_value(alloc, name_of(format, kind))?;
-    json!(in alloc; {
-        "count": counted.count,
-        "fault": counted.fault.name(),
-        "number": number,
-        "record_name": name,
-    })
+    let mut members = Map::new(alloc);
+    put_text_if(&mut members, alloc, "record_name", kind_name(format, kind))?;
+    put_number_if(&mut members, alloc, "number", kind)?;
+    put_text(&mut members, alloc, "fault", counted.fault.name())?;
+    put_number(&mut members, alloc, "count", u64::from(counted.count))?;
+    Ok(Value::from(members))
 }

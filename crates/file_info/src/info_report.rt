@@ -12,18 +12,18 @@ use crate::counted_text::put_counted;
 use crate::fault_counts::FaultCounts;
 use crate::info::FileInfo;
 use crate::info_values::{
-    axes_value, box_value, description_value, dots_of, format_value, frame_value, paper_of,
+    axes_value, box_value, description_of, dots_of, format_value, frame_value, paper_of,
     records_value,
 };
 use crate::playing::Playing;
 use crate::playing_values::{
-    allowed_value, drawings_value, fault_value, kind_name_value, kind_value, objects_value,
-    record_value,
+    allowed_value, drawings_value, fault_of, kind_name, kind_of, objects_value, record_of,
 };
 use draw_ops::Rules;
 use meta_headers::FileFormat;
 use report_parts::{
-    compact_text_of, notes_value, put_allowed, put_profile, put_text, report_text_of,
+    compact_text_of, notes_value, put_allowed, put_number_if, put_profile, put_text, put_text_if,
+    report_text_of,
 };
 use serde_json::{Map, Value, put};
 use std::alloc::{AllocError, Global};
@@ -48,11 +48,9 @@ fn first_value(alloc: Global, info: &FileInfo) -> Result<Value, AllocError>
 {
     let dots = axes_value(alloc, dots_of(info.sizes))?;
     let frame = box_value(alloc, info.sizes)?;
-    let fault = fault_value(alloc, info.playing)?;
     let uses = allowed_value(alloc, info.playing)?;
-    let description = description_value(alloc, &info.description)?;
     let mut members = Map::new(alloc);
-    put(&mut members, alloc, "fault", fault)?;
+    put_text_if(&mut members, alloc, "fault", fault_of(info.playing))?;
     put(&mut members, alloc, "error", Value::Null)?;
     put(&mut members, alloc, "emf_frame", frame)?;
     put(
@@ -62,7 +60,7 @@ fn first_value(alloc: Global, info: &FileInfo) -> Result<Value, AllocError>
         drawings_value(info.playing),
     )?;
     put(&mut members, alloc, "dots_per_inch", dots)?;
-    put(&mut members, alloc, "description", description)?;
+    put_text_if(&mut members, alloc, "description", description_of(info))?;
     put_allowed(&mut members, alloc, info.rules, uses)?;
     Ok(Value::from(members))
 }
@@ -101,12 +99,12 @@ fn put_playing(
 ) -> Result<(), AllocError>
     ensures { OnOk result (members_view members.new.entries ≡ with_playing format playing (members_view members.old.entries)) }
 {
-    let name = kind_name_value(alloc, format, playing)?;
-    put(members, alloc, "record_name", name)?;
-    put(members, alloc, "record", record_value(playing))?;
+    let kind = kind_of(playing);
+    put_text_if(members, alloc, "record_name", kind_name(format, kind))?;
+    put_number_if(members, alloc, "record", record_of(playing))?;
     put(members, alloc, "plays", Value::from(playing.is_playing()))?;
     put(members, alloc, "objects", objects_value(playing))?;
-    put(members, alloc, "number", kind_value(playing))
+    put_number_if(members, alloc, "number", kind)
 }
 
 /// Puts the member `faults` in place of the brace at the end of a text, and a comma after it.

@@ -2,8 +2,9 @@
 
 ghost use Rattle.std.specs.Prelude.{◌≡◌, IfOk, option_map, string_bytes};
 ghost use Rattle.serde_json.specs.View.{view};
-ghost use Rattle.file_info.specs.InfoReport.{axes_data, box_data, dots_if, edges_data, emf_frame_if, format_data, frame_data, paper_if, records_data, text_if};
+ghost use Rattle.file_info.specs.InfoReport.{axes_data, box_data, dots_if, edges_data, emf_frame_if, format_data, frame_data, paper_if, records_data};
 
+use crate::info::FileInfo;
 use crate::paper::{Axes, Sizes};
 use mapping::Rect;
 use meta_headers::FileFormat;
@@ -21,16 +22,13 @@ pub(crate) fn format_value(alloc: Global, format: Option<FileFormat>) -> Result<
     }
 }
 
-/// The text in the header, or null if there is none.
-pub(crate) fn description_value(
-    alloc: Global,
-    description: &Option<String>,
-) -> Result<Value, AllocError>
-    ensures { IfOk result (λ value. view value ≡ text_if (option_map string_bytes description.now)) }
+/// The text in the header, if there is one.
+pub(crate) fn description_of(info: &FileInfo) -> Option<&str>
+    ensures { option_map (λ text. text.now) result ≡ option_map string_bytes info.now.description }
 {
-    match description {
-        Some(text) => Value::try_from_str(alloc, text.as_str()),
-        None => Ok(Value::Null),
+    match &info.description {
+        Some(text) => Some(text.as_str()),
+        None => None,
     }
 }
 

@@ -35,4 +35,5 @@ pub use info::FileInfo;
 pub use info_report::{info_text, unread_text};
 pub use paper::{Axes, Sizes};
 pub use playing::Playing;
+pub use playing_values::kind_name;
 pub use totals::Totals;

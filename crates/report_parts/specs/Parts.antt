@@ -1,6 +1,6 @@
 -- What reports in JSON have in common.
 use Rattle.std.specs.Prelude.{ℕ, ◌==◌, if◌then◌else◌, List, [], ◌∷◌, ◌++◌, Option, Some, None, codes}
-use Rattle.serde_json.specs.Data.{Data, Members, array, item, no_items, no_members, null, number, object, put, unsigned}
+use Rattle.serde_json.specs.Data.{Data, Members, array, item, no_items, no_members, null, number, object, put, string, unsigned}
 use Rattle.serde_json.specs.Written.{compact_text}
 use Rattle.draw_ops.specs.NoteCounts.{note_count}
 use Rattle.draw_ops.specs.NoteTable.{note_row_of}
@@ -15,6 +15,11 @@ whole n = number (unsigned n)
 abbrev pub whole_if : Option ℕ → Data
 whole_if None = null
 whole_if (Some n) = whole n
+
+-- a text, or null if there is none
+abbrev pub text_if : Option (List ℕ) → Data
+text_if None = null
+text_if (Some text) = string text
 
 -- a list of two numbers, such as a width and a height
 abbrev pub pair : ℕ → ℕ → Data

@@ -12,7 +12,7 @@ use Rattle.draw_ops.specs.declared.note.Note.{Note}
 use Rattle.draw_ops.specs.RuleSets.{is_print}
 use Rattle.draw_ops.specs.declared.rules.Rules.{Rules}
 use Rattle.report_parts.specs.Profile.{put_used, uses_data, with_allowed, with_profile}
-use Rattle.report_parts.specs.Parts.{all_kinds, noted_kinds, notes_data, whole, whole_if}
+use Rattle.report_parts.specs.Parts.{all_kinds, noted_kinds, notes_data, text_if, whole, whole_if}
 
 -- one more member, if its value and the others have integers only
 pub put_whole : (k : List ℕ) (d : Data) (ms : Members) → has_float d ≡ false → members_have_float ms ≡ false → members_have_float (put k d ms) ≡ false
@@ -42,6 +42,10 @@ notes_whole counts = kinds_whole all_kinds counts
 pub if_whole : (n : Option ℕ) → has_float (whole_if n) ≡ false
 if_whole None = refl
 if_whole (Some n) = refl
+
+pub text_whole : (text : Option (List ℕ)) → has_float (text_if text) ≡ false
+text_whole None = refl
+text_whole (Some text) = refl
 
 -- and so have those of the profile, and of what is used
 used_whole : (none : Bool) (name : List ℕ) (count : ℕ) (ms : Members) → members_have_float ms ≡ false → members_have_float (cond none ms (put name (whole count) ms)) ≡ false

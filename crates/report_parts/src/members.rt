@@ -1,9 +1,9 @@
 //! Members of an object.
 
-ghost use Rattle.std.specs.Prelude.{◌≡◌, IfOk, OnOk};
+ghost use Rattle.std.specs.Prelude.{◌≡◌, IfOk, OnOk, option_map};
 ghost use Rattle.serde_json.specs.Data.{put as with_member, string};
 ghost use Rattle.serde_json.specs.View.{members_view, view};
-ghost use Rattle.report_parts.specs.Parts.{pair, whole, whole_if};
+ghost use Rattle.report_parts.specs.Parts.{pair, text_if, whole, whole_if};
 
 use serde_json::{Map, Value, json, put};
 use std::alloc::{AllocError, Global};
@@ -44,6 +44,21 @@ pub fn put_number_if(
 {
     match number {
         Some(number) => put_number(members, alloc, name, u64::from(number)),
+        None => put(members, alloc, name, Value::Null),
+    }
+}
+
+/// Adds a text, or null if there is none, under its name to a map of members.
+pub fn put_text_if(
+    members: &mut Map<String, Value>,
+    alloc: Global,
+    name: &str,
+    text: Option<&str>,
+) -> Result<(), AllocError>
+    ensures { OnOk result (members_view members.new.entries ≡ with_member name.now (text_if (option_map (λ it. it.now) text.entry)) (members_view members.old.entries)) }
+{
+    match text {
+        Some(text) => put_text(members, alloc, name, text),
         None => put(members, alloc, name, Value::Null),
     }
 }

@@ -4,9 +4,9 @@ use Rattle.std.specs.Prelude.{◌↔◌}
 use Rattle.command_lines.specs.Asked.{IsAskedFor, IsValid}
 use Rattle.command_lines.specs.CommandLine.{IsAskedByWords, texts_of}
 use Rattle.command_lines.specs.Dimensions.{HasDimensions}
-use Rattle.command_lines.specs.InfoWords.{AreAccepted, AreCommandWords, names_in}
+use Rattle.command_lines.specs.BatchWords.{AreAccepted, AreCommandWords, names_in}
 use Rattle.command_lines.specs.declared.asked.CommandLine.{CommandLine}
-use Rattle.commands.proofs.LineLemmas.{err_of_line, err_of_names, err_of_usage, err_of_version, help_status, holds_of_line, holds_of_names, named_file, never_usage, no_status, out_of_line, out_of_names, out_of_usage, out_of_version, same_of_line, same_status, same_unwritten, status_of_line, usage_only, version_is_right, version_not_read, version_not_rejected}
+use Rattle.commands.proofs.LineLemmas.{err_of_line, err_of_names, err_of_usage, err_of_version, help_status, holds_of_line, holds_of_names, line_not_stored, named_file, never_usage, no_status, out_of_line, out_of_names, out_of_usage, out_of_version, same_of_line, same_status, same_unwritten, status_of_line, usage_only, version_is_right, version_not_read, version_not_rejected, version_not_stored}
 use Rattle.commands.specs.Statuses.{status_of}
 use Rattle.clap.specs.declared.error.kind.ErrorKind.{ErrorKind}
 use Rattle.clap.specs.declared.error.kind.ErrorKind.TheVariants.{OutOfMemory}
@@ -28,6 +28,9 @@ pub returns-in-Ok-Command-clause-printed : goal.returns-in-Ok-Command-clause-pri
 returns-in-Ok-Command-clause-printed g c =
     let same = same_line c.in-Ok-Command.line c.compared.result.line (texts_of c.args.call.words.now) c.compared.ensures.line (subst IsValid c.in-Ok-Command.field-0-is c.in-Ok-Command.ensures.valid) (subst (IsAskedFor (texts_of c.args.call.words.now)) c.in-Ok-Command.field-0-is c.in-Ok-Command.ensures.asked) in
     err_of_line _ c.compared.result.line _ c.args.call.version.now same.0 same.1 c.perform.result.end _ _ _ c.perform.ensures.printed
+
+pub returns-in-Ok-Command-clause-unstored : goal.returns-in-Ok-Command-clause-unstored
+returns-in-Ok-Command-clause-unstored g c = λ e. line_not_stored c.compared.result.line _ c.perform.result.end _ _ _ c.perform.ensures.written e
 
 pub returns-in-Ok-Command-clause-right : goal.returns-in-Ok-Command-clause-right
 returns-in-Ok-Command-clause-right g c = λ right. status_of_line c.compared.result.line _ c.perform.result.end _ _ c.perform.ensures.written
@@ -74,51 +77,55 @@ returns-in-Ok-Command-clause-unread g c =
 pub returns-in-Ok-Command-clause-unshown : goal.returns-in-Ok-Command-clause-unshown
 returns-in-Ok-Command-clause-unshown g c = λ is. let same = (status_of_line c.compared.result.line _ c.perform.result.end _ _ c.perform.ensures.written).0 (help_status _ is) in absurd cc
 
-pub returns-in-Ok-Info-clause-written : goal.returns-in-Ok-Info-clause-written
-returns-in-Ok-Info-clause-written g c =
-    out_of_names _ (names_in c.in-Ok-Info.names.items) c.in-Ok-Info.rules _ _ (subst IsValid c.in-Ok-Info.field-0-is c.in-Ok-Info.ensures.valid) (subst (IsAskedFor (texts_of c.args.call.words.now)) c.in-Ok-Info.field-0-is c.in-Ok-Info.ensures.asked) c.info_command.result.end _ _
-    (rw c.as_slice.ensures.value at c.info_command.ensures.written)
+pub returns-in-Ok-Batch-clause-written : goal.returns-in-Ok-Batch-clause-written
+returns-in-Ok-Batch-clause-written g c =
+    out_of_names _ (names_in c.in-Ok-Batch.names.items) c.in-Ok-Batch.task _ _ (subst IsValid c.in-Ok-Batch.field-0-is c.in-Ok-Batch.ensures.valid) (subst (IsAskedFor (texts_of c.args.call.words.now)) c.in-Ok-Batch.field-0-is c.in-Ok-Batch.ensures.asked) c.batch_command.result.end _ _
+    (rw c.as_slice.ensures.value at c.batch_command.ensures.written)
 
-pub returns-in-Ok-Info-clause-printed : goal.returns-in-Ok-Info-clause-printed
-returns-in-Ok-Info-clause-printed g c =
-    err_of_names _ (names_in c.in-Ok-Info.names.items) c.in-Ok-Info.rules _ c.args.call.version.now (subst IsValid c.in-Ok-Info.field-0-is c.in-Ok-Info.ensures.valid) (subst (IsAskedFor (texts_of c.args.call.words.now)) c.in-Ok-Info.field-0-is c.in-Ok-Info.ensures.asked) c.info_command.result.end _ _ _ c.info_command.ensures.printed
+pub returns-in-Ok-Batch-clause-printed : goal.returns-in-Ok-Batch-clause-printed
+returns-in-Ok-Batch-clause-printed g c =
+    err_of_names _ (names_in c.in-Ok-Batch.names.items) c.in-Ok-Batch.task _ c.args.call.version.now (subst IsValid c.in-Ok-Batch.field-0-is c.in-Ok-Batch.ensures.valid) (subst (IsAskedFor (texts_of c.args.call.words.now)) c.in-Ok-Batch.field-0-is c.in-Ok-Batch.ensures.asked) c.batch_command.result.end _ _ _ c.batch_command.ensures.printed
 
-pub returns-in-Ok-Info-clause-cannot_write : goal.returns-in-Ok-Info-clause-cannot_write
-returns-in-Ok-Info-clause-cannot_write g c = λ e.
-    holds_of_names _ (names_in c.in-Ok-Info.names.items) c.in-Ok-Info.rules _ _ _ (subst IsValid c.in-Ok-Info.field-0-is c.in-Ok-Info.ensures.valid) (subst (IsAskedFor (texts_of c.args.call.words.now)) c.in-Ok-Info.field-0-is c.in-Ok-Info.ensures.asked) (c.info_command.ensures.cannot_write e)
+pub returns-in-Ok-Batch-clause-cannot_write : goal.returns-in-Ok-Batch-clause-cannot_write
+returns-in-Ok-Batch-clause-cannot_write g c = λ e.
+    holds_of_names _ (names_in c.in-Ok-Batch.names.items) c.in-Ok-Batch.task _ _ _ (subst IsValid c.in-Ok-Batch.field-0-is c.in-Ok-Batch.ensures.valid) (subst (IsAskedFor (texts_of c.args.call.words.now)) c.in-Ok-Batch.field-0-is c.in-Ok-Batch.ensures.asked) (c.batch_command.ensures.cannot_write e)
 
-pub returns-in-Ok-Info-clause-flushed : goal.returns-in-Ok-Info-clause-flushed
-returns-in-Ok-Info-clause-flushed g c = λ e.
-    holds_of_names _ (names_in c.in-Ok-Info.names.items) c.in-Ok-Info.rules _ _ _ (subst IsValid c.in-Ok-Info.field-0-is c.in-Ok-Info.ensures.valid) (subst (IsAskedFor (texts_of c.args.call.words.now)) c.in-Ok-Info.field-0-is c.in-Ok-Info.ensures.asked) (c.info_command.ensures.flushed (λ failed. absurd cc) (λ failed. absurd cc))
+pub returns-in-Ok-Batch-clause-flushed : goal.returns-in-Ok-Batch-clause-flushed
+returns-in-Ok-Batch-clause-flushed g c = λ e.
+    holds_of_names _ (names_in c.in-Ok-Batch.names.items) c.in-Ok-Batch.task _ _ _ (subst IsValid c.in-Ok-Batch.field-0-is c.in-Ok-Batch.ensures.valid) (subst (IsAskedFor (texts_of c.args.call.words.now)) c.in-Ok-Batch.field-0-is c.in-Ok-Batch.ensures.asked) (c.batch_command.ensures.flushed (λ failed. absurd cc) (λ failed. absurd cc))
 
-pub returns-in-Ok-Info-clause-rejected : goal.returns-in-Ok-Info-clause-rejected
-returns-in-Ok-Info-clause-rejected g c = λ e.
-    holds_of_names _ (names_in c.in-Ok-Info.names.items) c.in-Ok-Info.rules _ _ _ (subst IsValid c.in-Ok-Info.field-0-is c.in-Ok-Info.ensures.valid) (subst (IsAskedFor (texts_of c.args.call.words.now)) c.in-Ok-Info.field-0-is c.in-Ok-Info.ensures.asked) (c.info_command.ensures.flushed (λ failed. absurd cc) (λ failed. absurd cc))
+pub returns-in-Ok-Batch-clause-rejected : goal.returns-in-Ok-Batch-clause-rejected
+returns-in-Ok-Batch-clause-rejected g c = λ e.
+    holds_of_names _ (names_in c.in-Ok-Batch.names.items) c.in-Ok-Batch.task _ _ _ (subst IsValid c.in-Ok-Batch.field-0-is c.in-Ok-Batch.ensures.valid) (subst (IsAskedFor (texts_of c.args.call.words.now)) c.in-Ok-Batch.field-0-is c.in-Ok-Batch.ensures.asked) (c.batch_command.ensures.flushed (λ failed. absurd cc) (λ failed. absurd cc))
 
-pub returns-in-Ok-Info-clause-unread : goal.returns-in-Ok-Info-clause-unread
-returns-in-Ok-Info-clause-unread g c = λ e.
-    holds_of_names _ (names_in c.in-Ok-Info.names.items) c.in-Ok-Info.rules _ _ _ (subst IsValid c.in-Ok-Info.field-0-is c.in-Ok-Info.ensures.valid) (subst (IsAskedFor (texts_of c.args.call.words.now)) c.in-Ok-Info.field-0-is c.in-Ok-Info.ensures.asked) (c.info_command.ensures.flushed (λ failed. absurd cc) (λ failed. absurd cc))
+pub returns-in-Ok-Batch-clause-unread : goal.returns-in-Ok-Batch-clause-unread
+returns-in-Ok-Batch-clause-unread g c = λ e.
+    holds_of_names _ (names_in c.in-Ok-Batch.names.items) c.in-Ok-Batch.task _ _ _ (subst IsValid c.in-Ok-Batch.field-0-is c.in-Ok-Batch.ensures.valid) (subst (IsAskedFor (texts_of c.args.call.words.now)) c.in-Ok-Batch.field-0-is c.in-Ok-Batch.ensures.asked) (c.batch_command.ensures.flushed (λ failed. absurd cc) (λ failed. absurd cc))
 
-pub returns-in-Ok-Info-clause-right : goal.returns-in-Ok-Info-clause-right
-returns-in-Ok-Info-clause-right g c = λ right. no_status c.info_command.result.end (λ P two. never_usage c.info_command.result.end _ _ _ _ _ P c.info_command.ensures.written two)
+pub returns-in-Ok-Batch-clause-unstored : goal.returns-in-Ok-Batch-clause-unstored
+returns-in-Ok-Batch-clause-unstored g c = λ e.
+    holds_of_names _ (names_in c.in-Ok-Batch.names.items) c.in-Ok-Batch.task _ _ _ (subst IsValid c.in-Ok-Batch.field-0-is c.in-Ok-Batch.ensures.valid) (subst (IsAskedFor (texts_of c.args.call.words.now)) c.in-Ok-Batch.field-0-is c.in-Ok-Batch.ensures.asked) (c.batch_command.ensures.flushed (λ failed. absurd cc) (λ failed. absurd cc))
 
-pub returns-in-Ok-Info-clause-same_words : goal.returns-in-Ok-Info-clause-same_words
-returns-in-Ok-Info-clause-same_words g c = λ is. never_usage c.info_command.result.end _ _ _ _ _ _ c.info_command.ensures.written (same_status _ is)
+pub returns-in-Ok-Batch-clause-right : goal.returns-in-Ok-Batch-clause-right
+returns-in-Ok-Batch-clause-right g c = λ right. no_status c.batch_command.result.end (λ P two. never_usage c.batch_command.result.end _ _ _ _ _ P c.batch_command.ensures.written two)
 
-pub returns-in-Ok-Info-clause-same_reported : goal.returns-in-Ok-Info-clause-same_reported
-returns-in-Ok-Info-clause-same_reported g c = λ is. never_usage c.info_command.result.end _ _ _ _ _ _ c.info_command.ensures.written (same_status _ is)
+pub returns-in-Ok-Batch-clause-same_words : goal.returns-in-Ok-Batch-clause-same_words
+returns-in-Ok-Batch-clause-same_words g c = λ is. never_usage c.batch_command.result.end _ _ _ _ _ _ c.batch_command.ensures.written (same_status _ is)
 
-pub returns-in-Ok-Info-clause-same_unwritten : goal.returns-in-Ok-Info-clause-same_unwritten
-returns-in-Ok-Info-clause-same_unwritten g c = λ is. never_usage c.info_command.result.end _ _ _ _ _ _ c.info_command.ensures.written (same_status _ is)
+pub returns-in-Ok-Batch-clause-same_reported : goal.returns-in-Ok-Batch-clause-same_reported
+returns-in-Ok-Batch-clause-same_reported g c = λ is. never_usage c.batch_command.result.end _ _ _ _ _ _ c.batch_command.ensures.written (same_status _ is)
 
-pub returns-in-Ok-Info-clause-help : goal.returns-in-Ok-Info-clause-help
-returns-in-Ok-Info-clause-help g c = λ is. never_usage c.info_command.result.end _ _ _ _ _ _ c.info_command.ensures.written (help_status _ is)
+pub returns-in-Ok-Batch-clause-same_unwritten : goal.returns-in-Ok-Batch-clause-same_unwritten
+returns-in-Ok-Batch-clause-same_unwritten g c = λ is. never_usage c.batch_command.result.end _ _ _ _ _ _ c.batch_command.ensures.written (same_status _ is)
 
-pub returns-in-Ok-Info-clause-unshown : goal.returns-in-Ok-Info-clause-unshown
-returns-in-Ok-Info-clause-unshown g c = λ is. never_usage c.info_command.result.end _ _ _ _ _ _ c.info_command.ensures.written (help_status _ is)
+pub returns-in-Ok-Batch-clause-help : goal.returns-in-Ok-Batch-clause-help
+returns-in-Ok-Batch-clause-help g c = λ is. never_usage c.batch_command.result.end _ _ _ _ _ _ c.batch_command.ensures.written (help_status _ is)
 
-pub returns-in-Ok-Info-clause-usage_unread : goal.returns-in-Ok-Info-clause-usage_unread
-returns-in-Ok-Info-clause-usage_unread g c = λ is. never_usage c.info_command.result.end _ _ _ _ _ _ c.info_command.ensures.written is
+pub returns-in-Ok-Batch-clause-unshown : goal.returns-in-Ok-Batch-clause-unshown
+returns-in-Ok-Batch-clause-unshown g c = λ is. never_usage c.batch_command.result.end _ _ _ _ _ _ c.batch_command.ensures.written (help_status _ is)
+
+pub returns-in-Ok-Batch-clause-usage_unread : goal.returns-in-Ok-Batch-clause-usage_unread
+returns-in-Ok-Batch-clause-usage_unread g c = λ is. never_usage c.batch_command.result.end _ _ _ _ _ _ c.batch_command.ensures.written is
 
 pub returns-in-Ok-Version-clause-written : goal.returns-in-Ok-Version-clause-written
 returns-in-Ok-Version-clause-written g c =
@@ -139,6 +146,9 @@ returns-in-Ok-Version-clause-rejected g c = λ e. version_not_rejected c.version
 
 pub returns-in-Ok-Version-clause-unread : goal.returns-in-Ok-Version-clause-unread
 returns-in-Ok-Version-clause-unread g c = λ e. version_not_read c.version_command.result.end _ _ _ _ c.version_command.ensures.written e
+
+pub returns-in-Ok-Version-clause-unstored : goal.returns-in-Ok-Version-clause-unstored
+returns-in-Ok-Version-clause-unstored g c = λ e. version_not_stored c.version_command.result.end _ _ _ _ c.version_command.ensures.written e
 
 pub returns-in-Ok-Version-clause-right : goal.returns-in-Ok-Version-clause-right
 returns-in-Ok-Version-clause-right g c = λ right. no_status c.version_command.result.end (λ P two. version_is_right c.version_command.result.end _ _ _ P c.version_command.ensures.written two)
@@ -194,11 +204,14 @@ returns-in-Err-clause-rejected g c = (usage_only c.usage.result.end _ c.usage.en
 pub returns-in-Err-clause-unread : goal.returns-in-Err-clause-unread
 returns-in-Err-clause-unread g c = (usage_only c.usage.result.end _ c.usage.ensures.ends).1.1.1.0
 
+pub returns-in-Err-clause-unstored : goal.returns-in-Err-clause-unstored
+returns-in-Err-clause-unstored g c = (usage_only c.usage.result.end _ c.usage.ensures.ends).1.1.1.1.0
+
 pub returns-in-Err-clause-same_words : goal.returns-in-Err-clause-same_words
-returns-in-Err-clause-same_words g c = (usage_only c.usage.result.end _ c.usage.ensures.ends).1.1.1.1
+returns-in-Err-clause-same_words g c = (usage_only c.usage.result.end _ c.usage.ensures.ends).1.1.1.1.1
 
 pub returns-in-Err-clause-same_reported : goal.returns-in-Err-clause-same_reported
-returns-in-Err-clause-same_reported g c = (usage_only c.usage.result.end _ c.usage.ensures.ends).1.1.1.1
+returns-in-Err-clause-same_reported g c = (usage_only c.usage.result.end _ c.usage.ensures.ends).1.1.1.1.1
 
 pub returns-in-Err-clause-same_unwritten : goal.returns-in-Err-clause-same_unwritten
-returns-in-Err-clause-same_unwritten g c = (usage_only c.usage.result.end _ c.usage.ensures.ends).1.1.1.1
+returns-in-Err-clause-same_unwritten g c = (usage_only c.usage.result.end _ c.usage.ensures.ends).1.1.1.1.1
