@@ -140,10 +140,10 @@ impl<'a, R: Files> NamedOutput<'a, R> {
             return Ok(());
         }
         self.sync()?;
-        if self.written == Written::New {
-            return self.link();
+        if self.written == Written::Beside {
+            return self.rename();
         }
-        self.rename()
+        self.link()
     }
 
     /// Writes a text to the open file.

@@ -65,8 +65,9 @@ where
     ensures unreported { IsUnreported result E.fault_count err.old err.new }
     ensures unshown { result.end ≡ CommandEnd.Help → OnErr result.printed (Rises O.fault_count out.old out.new) }
 {
-    let Ok(read) = read_words(rt) else {
-        return no_input(InputFault::OutOfMemory, err);
+    let read = match read_words(rt) {
+        Ok(read) => read,
+        Err(AllocError) => return no_input(InputFault::OutOfMemory, err),
     };
     let words = read.words.as_slice();
     match has_right_marks(rt.alloc(), words, read.marked) {
