@@ -7,12 +7,12 @@ use Rattle.clap.specs.Words.{Row, Shape, Text}
 use Rattle.clap.specs.Simple.{subcommand_rows}
 use Rattle.clap.specs.declared.parser.matches.SubCommand.{SubCommand}
 use Rattle.clap.specs.declared.parser.matches.ArgMatches.TheViews.{out-SubCommand}
-use Rattle.command_lines.specs.CommandLine.{AreRightArguments, HoldsWords, IsAskedBy, IsRightCommand, command_name, metaplay_app}
-use Rattle.command_lines.specs.Asked.{HoldsInfo, IsFound}
-use Rattle.command_lines.specs.InfoWords.{AsksInfoOnce, GivesNamesOnce, IsOther}
+use Rattle.command_lines.specs.Asked.{HoldsNames, IsFound}
+use Rattle.command_lines.specs.BatchWords.{AsksRightCertify, AsksRightInfo, GivesNames, HasNoInput, HasOneInput, IsOther}
+use Rattle.command_lines.specs.CommandLine.{AreRightArguments, HoldsWords, IsAskedBy, IsRightCommand, certify_app, command_name, metaplay_app}
 use Rattle.command_lines.specs.RuleWords.{AreRightRules}
 use Rattle.command_lines.specs.declared.asked.Asked.{Asked}
-use Rattle.command_lines.specs.declared.asked.Asked.TheVariants.{Command, Info, Version}
+use Rattle.command_lines.specs.declared.asked.Asked.TheVariants.{Batch, Command, Version}
 use Rattle.command_lines.specs.declared.asked.CommandLine.{CommandLine}
 
 same_inside : {A : Type 0} {x y : A} → Some x ≡ Some y → x ≡ y
@@ -66,26 +66,42 @@ module _ {Z : Type 0} where
       let one : right.shape ≡ shape = same_inside (sym right.declared ∙ found) in
       subst (AreRightArguments shape) (sym (ap (λ (p : Text × List Row). p.1) both)) (subst (λ (s : Shape). AreRightArguments s right.given) one right.allowed)
 
-  -- `info` with these rows was found
-  pub info_found : (met : Option (Box SubCommand Z)) (given : List Row) (asked : Asked) → name_met met ≡ Some (codes "info") → rows_met met ≡ Some given → HoldsInfo given asked
-      → IsFound (subcommand_rows met) asked
-  info_found met given (Command line) named rows holds = absurd holds
-  info_found met given Version named rows holds = absurd holds
-  info_found met given (Info names rules) named rows holds =
-      record { given = given; command = both_met met (codes "info") given named rows; are = holds.0; rule = holds.1 }
+  -- a command on several files with these rows was found
+  pub batch_found : (met : Option (Box SubCommand Z)) (command : Text) (given : List Row) (asked : Asked) → name_met met ≡ Some command → rows_met met ≡ Some given
+      → HoldsNames command given asked → IsFound (subcommand_rows met) asked
+  batch_found met command given (Command line) named rows holds = absurd holds
+  batch_found met command given Version named rows holds = absurd holds
+  batch_found met command given (Batch names task) named rows holds = record {
+    given = given;
+    command = both_met met command given named rows ∙ ap (λ (n : Text). Some (n, given)) (sym holds.0);
+    are = holds.1;
+    gives = holds.2;
+  }
 
-  pub some_info_found : (met : Option (Box SubCommand Z)) (given : List Row) (r : Option Asked) → name_met met ≡ Some (codes "info") → rows_met met ≡ Some given
-      → IfSome r (HoldsInfo given) → IfSome r (IsFound (subcommand_rows met))
-  some_info_found met given None named rows holds = tt
-  some_info_found met given (Some asked) named rows holds = info_found met given asked named rows holds
+  pub some_batch_found : (met : Option (Box SubCommand Z)) (command : Text) (given : List Row) (r : Option Asked) → name_met met ≡ Some command → rows_met met ≡ Some given
+      → IfSome r (HoldsNames command given) → IfSome r (IsFound (subcommand_rows met))
+  some_batch_found met command given None named rows holds = tt
+  some_batch_found met command given (Some asked) named rows holds = batch_found met command given asked named rows holds
 
-  -- it was given names as they should be, and rules
-  pub info_given : (met : Option (Box SubCommand Z)) (given : List Row) → name_met met ≡ Some (codes "info") → rows_met met ≡ Some given → AsksInfoOnce (subcommand_rows met)
-      → GivesNamesOnce given × AreRightRules given
-  info_given met given named rows once =
-      let both : (codes "info", given) ≡ (codes "info", once.asks.given) = same_inside (sym (both_met met (codes "info") given named rows) ∙ once.asks.command) in
-      subst (λ (rows : List Row). GivesNamesOnce rows × AreRightRules rows) (sym (ap (λ (p : Text × List Row). p.1) both))
-      (record { names = once.names; are = once.asks.are; once = once.once }, once.asks.rule.right)
+  -- the rows of a command with this name are the ones that were found
+  same_given : (met : Option (Box SubCommand Z)) (command : Text) (given other : List Row) → name_met met ≡ Some command → rows_met met ≡ Some given
+      → subcommand_rows met ≡ Some (command, other) → given ≡ other
+  same_given met command given other named rows is =
+      ap (λ (p : Text × List Row). p.1) (same_inside (sym (both_met met command given named rows) ∙ is))
+
+  -- `info` was given names as they should be, and rules
+  pub info_given : (met : Option (Box SubCommand Z)) (given : List Row) → name_met met ≡ Some (codes "info") → rows_met met ≡ Some given → AsksRightInfo (subcommand_rows met)
+      → GivesNames given HasOneInput × AreRightRules given
+  info_given met given named rows right =
+      subst (λ (rows : List Row). GivesNames rows HasOneInput × AreRightRules rows) (sym (same_given met (codes "info") given right.given named rows right.command))
+      (right.names, right.rules)
+
+  -- `certify` was given names as they should be, and other arguments
+  pub certify_given : (met : Option (Box SubCommand Z)) (given : List Row) → name_met met ≡ Some (codes "certify") → rows_met met ≡ Some given
+      → AsksRightCertify (subcommand_rows met) → GivesNames given HasNoInput × AreRightArguments certify_app.top given
+  certify_given met given named rows right =
+      subst (λ (rows : List Row). GivesNames rows HasNoInput × AreRightArguments certify_app.top rows)
+      (sym (same_given met (codes "certify") given right.given named rows right.command)) (right.names, right.arguments)
 
   -- the parsed command has the right name
   name_right : (met : Option (Box SubCommand Z)) (right : IsRightCommand (subcommand_rows met)) → name_met met ≡ Some right.name

@@ -1,41 +1,29 @@
 -- What clap returns for `info` and one or more names.
-use Rattle.std.proofs.Common.{arith, inl, inr, leb, ap₂, fold, is_some, ◌≡◌, ◌∙◌, ◌&&◌, ◌≤◌, ◌+◌, ◌++◌, ap, sym, subst, refl, Bool, List, [], ◌∷◌, Option, false, true, Some, None, codes, map, length, string_bytes, String, ℕ}
+use Rattle.std.proofs.Common.{arith, ap₂, fold, is_some, ◌≡◌, ◌∙◌, ◌&&◌, ◌≤◌, ◌+◌, ◌++◌, ap, sym, subst, refl, Bool, List, [], ◌∷◌, false, true, Some, None, codes, map, length}
 use Rattle.std.specs.List.{All, list_all}
-use Rattle.std.proofs.lemmas.Bool.{le-leb}
-use Rattle.std.proofs.lemmas.List.{append_assoc, append-nil, length-append, length-map}
-use Rattle.std.specs.declared.alloc.Global.{Global}
+use Rattle.std.proofs.lemmas.List.{append_assoc, append-nil, length-append}
 use Rattle.std.proofs.lemmas.List.Elements.{All-head, All-tail}
 use Rattle.clap.specs.Lexer.{usize_max}
-use Rattle.clap.specs.Simple.{Shape, built, entered, is_simple, names_of}
-use Rattle.clap.specs.Takes.{default_passes, entered_passes, is_valid, level_passes, settle_passes, values_pass, walk_passes}
-use Rattle.clap.specs.Walk.{Names, walked, Row, Rule, Text, Walk, all_of, finished, nothing_held, positional, rows_after, walk_from}
+use Rattle.clap.specs.Simple.{Shape, built, entered, is_simple}
+use Rattle.clap.specs.Takes.{default_passes, entered_passes, is_valid, level_passes, settle_passes}
+use Rattle.clap.specs.Walk.{walked, Row, Text, Walk, all_of, finished, nothing_held, positional, rows_after, walk_from}
 use Rattle.clap.specs.Words.{subcommand_of, takes}
 use Rattle.clap.proofs.OnLiterals.{clap_on_literals}
-use Rattle.draw_ops.specs.declared.rules.Rules.{Rules}
-use Rattle.command_lines.specs.CommandLine.{GivesAll, IsPlainWord, IsRightCommand, files_rule, info_app, metaplay_app, texts_of}
-use Rattle.command_lines.specs.InfoWords.{AreCommandWords, AreInfoWords, AsksInfo, AsksInfoByWords, AsksInfoOnce, IsOther}
+use Rattle.command_lines.specs.CommandLine.{GivesAll, IsPlainWord, info_app, metaplay_app}
+use Rattle.command_lines.specs.BatchWords.{AreInfoWords, AsksRightInfo}
 use Rattle.command_lines.specs.RightWords.{AreOfKinds, ArgumentKind, exactly, name, rule_options}
-use Rattle.command_lines.specs.RuleWords.{AreRightRules, rules_asked}
-use Rattle.command_lines.specs.VersionWords.{AreVersionWords}
+use Rattle.command_lines.specs.RuleWords.{AreRightRules}
+use Rattle.command_lines.proofs.BatchLemmas.{are_exactly, name_kinds, names_pass, names_taken, top, top_names, words_pass, words_stay}
 use Rattle.command_lines.proofs.KindLemmas.{end_passes, kinds_end, kinds_pass, kinds_walked, rows_kinds}
-use Rattle.command_lines.proofs.TakenLemmas.{other_than_info, right_command, right_taken}
 use Rattle.command_lines.proofs.UsageLemmas.{IsTaken, all_of_list, built_shape, core_right, of_usage, print_right}
 
 -- the command as clap builds it
 abbrev pub info_shape : Shape
 info_shape = built_shape (codes "info")
 
--- each word is a name
-abbrev pub name_kinds : List Text → List ArgumentKind
-name_kinds words = map (λ (word : Text). name) words
-
 -- names, followed by exactly these words
 abbrev pub ended_kinds : List Text → List Text → List ArgumentKind
 ended_kinds words options = name_kinds words ++ map exactly options
-
-are_exactly : (options : List Text) → AreOfKinds (map exactly options) options
-are_exactly [] = tt
-are_exactly (word ∷ options) = (refl, are_exactly options)
 
 pub are_names : (words options : List Text) → All IsPlainWord words → AreOfKinds (ended_kinds words options) (words ++ options)
 are_names [] options all = are_exactly options
@@ -78,10 +66,6 @@ ended_names word words options = ap (λ (w : Walk). w.held) (walked_names words 
 -- what `info` is given with these names and options
 abbrev pub rows_given : List Text → List Text → List Row
 rows_given names options = finished info_shape.rules (after_options names options).held
-
--- clap's tests of these names
-abbrev pub names_pass : List Text → Bool
-names_pass names = leb 1 (length names) && (leb (length names) usize_max && values_pass files_rule names)
 
 -- clap accepts these options after one or more names, and `info` is given the names, and rules as they should be
 pub record AreTaken (options : List Text) : Type 0 where
@@ -148,31 +132,10 @@ both_taken = record {
 options_taken : All AreTaken rule_options
 options_taken = all_of_list AreTaken rule_options (none_taken, (core_taken, (print_taken, (held_deletion_taken, (emf_plus_taken, (both_taken, tt))))))
 
--- after the command's name, all words are the command's
-pub words_stay : (rules : List Rule) (names : Names) (w : Walk) (command : Text) (words before : List Text)
-    → fold (walked rules names) (record w { stopped = Some (command, before) }) words ≡ record w { stopped = Some (command, before ++ words) }
-unfolding walked
-words_stay rules names w command [] before = ap (λ (all : List Text). record w { stopped = Some (command, all) }) (sym (append-nil before))
-words_stay rules names w command (word ∷ words) before =
-    words_stay rules names w command words (before ++ word ∷ []) ∙ ap (λ (all : List Text). record w { stopped = Some (command, all) }) (append_assoc before (word ∷ []) words)
-
--- the program's own level
-abbrev pub top : Shape
-top = (built metaplay_app).top
-
-abbrev pub top_names : Names
-top_names = names_of (built metaplay_app)
-
 -- where the walk over `info` and its words ends
 pub top_walked : (words : List Text) → fold (walked top.rules top_names) (walk_from nothing_held) (codes "info" ∷ words) ≡ record (walk_from nothing_held) { stopped = Some (codes "info", words) }
 unfolding clap_on_literals
 top_walked words = words_stay top.rules top_names (walk_from nothing_held) (codes "info") words []
-
--- words after the command's name pass at the program's level
-pub words_pass : (s : Shape) (names : Names) (w : Walk) (command : Text) (words before : List Text) → walk_passes s names (record w { stopped = Some (command, before) }) words ≡ true
-unfolding walk_passes walked
-words_pass s names w command [] before = refl
-words_pass s names w command (word ∷ words) before = words_pass s names w command words (before ++ word ∷ [])
 
 pub info_met : (program : Text) (words : List Text) → subcommand_of metaplay_app (program ∷ codes "info" ∷ words) ≡ Some (codes "info", rows_after info_shape.rules [] words)
 unfolding clap_on_literals
@@ -185,17 +148,6 @@ info_enters program words passes =
     && (list_all default_passes top.rules && is_valid top (finished top.rules w.held) (is_some (entered (built metaplay_app) w.stopped)))))))
     (words_pass top top_names (walk_from nothing_held) (codes "info") words []) (top_walked words)
     ∙ ap (λ (b : Bool). b && true) passes
-
--- any text may be a name
-values_taken : (words : List Text) → values_pass files_rule words ≡ true
-unfolding clap_on_literals
-values_taken [] = refl
-values_taken (word ∷ words) = values_taken words
-
-names_taken : (word : Text) (words : List Text) → length (word ∷ words) ≤ usize_max → names_pass (word ∷ words) ≡ true
-names_taken word words few =
-    ap (λ (some : Bool). some && (leb (length (word ∷ words)) usize_max && values_pass files_rule (word ∷ words))) (le-leb 1 (length (word ∷ words)) (omega arith))
-    ∙ ap₂ (λ (within pass : Bool). within && pass) (le-leb (length (word ∷ words)) usize_max few) (values_taken (word ∷ words))
 
 -- clap accepts one or more names with such options
 pub info_taken : (word : Text) (words options : List Text) → AreTaken options → All IsPlainWord (word ∷ words) → length (word ∷ words) ≤ usize_max
@@ -224,45 +176,16 @@ info_words_taken words right few =
     subst (λ (l : List Text). takes metaplay_app l ≡ true) (sym right.are)
     ((info_taken right.name right.names right.options (right_options words right) right.plain (omega (arith, within, parts))).taken right.program)
 
--- the rules that they ask for
-abbrev pub info_rules : (words : List Text) → AreInfoWords words → Rules
-info_rules words right = rules_asked (rows_given (right.name ∷ right.names) right.options)
-
-pub info_words_asked : (words : List Text) (right : AreInfoWords words) → AsksInfoByWords words (right.name ∷ right.names) (info_rules words right)
+pub info_words_asked : (words : List Text) → AreInfoWords words → AsksRightInfo (subcommand_of metaplay_app words)
 info_words_asked words right =
     let names = right.name ∷ right.names in
     let options = right.options in
     let taken = right_options words right in
-    subst (λ (l : List Text). AsksInfoByWords l names (info_rules words right)) (sym right.are) (record {
+    subst (λ (l : List Text). AsksRightInfo (subcommand_of metaplay_app l)) (sym right.are) (record {
       given = rows_given names options;
       command = info_met right.program (right.name ∷ (right.names ++ options))
           ∙ ap (λ (rows : List Row). Some (codes "info", rows)) (rows_kinds info_shape.rules (ended_kinds names options) (names ++ options) (are_names names options right.plain)
           ∙ ap (finished info_shape.rules) (ended_names right.name right.names options));
-      are = taken.named right.name right.names;
-      rule = record { right = taken.right right.name right.names; are = refl };
+      names = record { names = names; are = taken.named right.name right.names; fact = right.once };
+      rules = taken.right right.name right.names;
     })
-
--- clap accepts words that are right for a command
-pub command_words_taken : (words : List Text) → (AreVersionWords words → ⊥) → AreCommandWords words → length words ≤ usize_max → takes metaplay_app words ≡ true
-command_words_taken words other (inl right) few = right_taken words right
-command_words_taken words other (inr (inl right)) few = info_words_taken words right few
-command_words_taken words other (inr (inr version)) few = absurd (other version)
-
--- what is asked for is found in them
-pub command_words_found : (words : List Text) (met : Option (Text × List Row)) (found : Bool) → met ≡ subcommand_of metaplay_app words
-    → (IsRightCommand met → IsOther (codes "info") met → found ≡ true) → (AsksInfoOnce met → found ≡ true) → (AreVersionWords words → ⊥) → AreCommandWords words → found ≡ true
-command_words_found words met found is command info other (inl right) =
-    command (subst IsRightCommand (sym is) (right_command words right)) (subst (IsOther (codes "info")) (sym is) (other_than_info words right))
-command_words_found words met found is command info other (inr (inl right)) =
-    let rules = info_rules words right in
-    info (record {
-      names = right.name ∷ right.names;
-      rules = rules;
-      asks = subst (λ (rows : Option (Text × List Row)). AsksInfo rows (right.name ∷ right.names) rules) (sym is) (info_words_asked words right);
-      once = right.once;
-    })
-command_words_found words met found is command info other (inr (inr version)) = absurd (other version)
-
--- there are as many texts as words
-pub few_texts : (words : List (String Global)) → length words ≤ usize_max → length (texts_of words) ≤ usize_max
-few_texts words few = subst (λ (count : ℕ). count ≤ usize_max) (sym (length-map words string_bytes)) few

@@ -1,5 +1,8 @@
 pub mod AppLemmas
 pub mod AskedLemmas
+pub mod BatchLemmas
+pub mod CertifyLemmas
+pub mod CommandLemmas
 pub mod ConflictLemmas
 pub mod InfoLemmas
 pub mod KindLemmas

@@ -11,7 +11,7 @@ use Rattle.clap.proofs.OnLiterals.{clap_on_literals}
 use Rattle.command_lines.specs.CommandLine.{metaplay_app}
 use Rattle.command_lines.specs.WrongWords.{AreWrongWords, GiveProfileTwice, IsNoEnd, IsOption, ruled_commands}
 use Rattle.command_lines.proofs.ConflictLemmas.{HasProfile, built_profile, profile_id, settle_twice, use_twice}
-use Rattle.command_lines.proofs.InfoLemmas.{top, top_names, words_stay}
+use Rattle.command_lines.proofs.BatchLemmas.{top, top_names, words_stay}
 use Rattle.command_lines.proofs.KindLemmas.{no_command}
 use Rattle.command_lines.proofs.OpenLemmas.{IsOpen, fold_open, not_end, walked_open}
 use Rattle.command_lines.proofs.RowLemmas.{fold_holds, holds_row, settled_holds, used_holds, waits_holds}
@@ -138,6 +138,10 @@ info_own : FaultsAreOwn (codes "info")
 unfolding clap_on_literals
 info_own program words = own (codes "info") words (words_stay top.rules top_names (walk_from nothing_held) (codes "info") words []) refl program
 
+certify_own : FaultsAreOwn (codes "certify")
+unfolding clap_on_literals
+certify_own program words = own (codes "certify") words (words_stay top.rules top_names (walk_from nothing_held) (codes "certify") words []) refl program
+
 -- a command that is given its rules has a profile
 record IsRuled (command : Text) : Type 0 where
   pub faults : FaultsAreOwn command
@@ -150,7 +154,10 @@ ruled = all_of_list IsRuled ruled_commands (
     record { faults = prepare_own; profile = record { by_long = refl; by_id = refl; again = refl; takes_one = refl; others = refl } },
     (
       record { faults = list_own; profile = record { by_long = refl; by_id = refl; again = refl; takes_one = refl; others = refl } },
-      (record { faults = info_own; profile = record { by_long = refl; by_id = refl; again = refl; takes_one = refl; others = refl } }, tt),
+      (
+        record { faults = info_own; profile = record { by_long = refl; by_id = refl; again = refl; takes_one = refl; others = refl } },
+        (record { faults = certify_own; profile = record { by_long = refl; by_id = refl; again = refl; takes_one = refl; others = refl } }, tt),
+      ),
     ),
   ),
 )

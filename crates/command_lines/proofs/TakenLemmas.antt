@@ -1,13 +1,15 @@
 -- clap accepts right words, and they give a command the arguments that it takes.
-use Rattle.std.proofs.Common.{◌≡◌, ◌∙◌, ◌&&◌, ap, ap₂, arith, sym, subst, refl, Bool, ℕ, List, [], ◌∷◌, false, true, Some, codes, pos}
-use Rattle.std.specs.List.{All}
+use Rattle.std.proofs.Common.{◌≡◌, ◌∙◌, ◌&&◌, ◌||◌, ap, ap₂, not, sym, subst, refl, Bool, List, [], ◌∷◌, false, true, Some, codes, pos}
+use Rattle.std.specs.List.{All, list_all}
+use Rattle.std.specs.Str.{bytes_eq}
+use Rattle.std.proofs.lemmas.List.Sums.{AllPass-from_list_all}
 use Rattle.mapping.specs.Limits.{surface_side_limit}
 use Rattle.clap.specs.ValueTests.{is_signed_in}
 use Rattle.clap.specs.Walk.{Row, Text}
 use Rattle.clap.specs.Words.{subcommand_of, takes}
 use Rattle.clap.proofs.OnLiterals.{clap_on_literals}
 use Rattle.command_lines.specs.CommandLine.{IsRightCommand, check_app, metaplay_app, over_app, play_app}
-use Rattle.command_lines.specs.InfoWords.{IsOther}
+use Rattle.command_lines.specs.BatchWords.{IsNoBatch}
 use Rattle.command_lines.specs.RightWords.{AreRightWords, ArgumentKind, bands, fit, name, side, usages}
 use Rattle.command_lines.proofs.RuledLemmas.{ruled_taken}
 use Rattle.command_lines.proofs.SideLemmas.{side_passes}
@@ -75,21 +77,16 @@ all_taken : All UsageIsTaken usages
 all_taken = all_of_list UsageIsTaken usages
     (check_taken, (play_taken, (play_fit_taken, (bands_taken, (bands_fit_taken, (fit_bands_taken, (over_taken, ruled_taken)))))))
 
--- the first byte of a command's name
-abbrev first_byte : Text → ℕ
-first_byte [] = 0
-first_byte (byte ∷ rest) = byte
+-- the command is one on several files
+abbrev is_batch : Text → Bool
+is_batch command = bytes_eq command (codes "info") || bytes_eq command (codes "certify")
 
--- two bytes differ
-abbrev are_apart : ℕ → ℕ → Type 0
-are_apart a b = a ≡ b → ⊥
+-- the usage is that of a command on one file
+abbrev is_of_one : Text × List ArgumentKind → Bool
+is_of_one usage = not (is_batch usage.0)
 
--- the usage isn't that of `info`, since its name begins with another byte
-abbrev BeginsOtherwise : Text × List ArgumentKind → Type 0
-BeginsOtherwise usage = are_apart (first_byte usage.0) (first_byte (codes "info"))
-
-none_is_info : All BeginsOtherwise usages
-none_is_info = all_of_list BeginsOtherwise usages ((λ e. omega (arith, e)), ((λ e. omega (arith, e)), ((λ e. omega (arith, e)), ((λ e. omega (arith, e)), ((λ e. omega (arith, e)), ((λ e. omega (arith, e)), ((λ e. omega (arith, e)), ((λ e. omega (arith, e)), ((λ e. omega (arith, e)), ((λ e. omega (arith, e)), ((λ e. omega (arith, e)), ((λ e. omega (arith, e)), ((λ e. omega (arith, e)), ((λ e. omega (arith, e)), ((λ e. omega (arith, e)), ((λ e. omega (arith, e)), ((λ e. omega (arith, e)), ((λ e. omega (arith, e)), ((λ e. omega (arith, e)), ((λ e. omega (arith, e)), ((λ e. omega (arith, e)), ((λ e. omega (arith, e)), ((λ e. omega (arith, e)), ((λ e. omega (arith, e)), ((λ e. omega (arith, e)), ((λ e. omega (arith, e)), ((λ e. omega (arith, e)), ((λ e. omega (arith, e)), ((λ e. omega (arith, e)), ((λ e. omega (arith, e)), ((λ e. omega (arith, e)), tt)))))))))))))))))))))))))))))))
+all_of_one : list_all is_of_one usages ≡ true
+all_of_one = refl
 
 is_taken : (words : List Text) (right : AreRightWords words) → IsTaken right.command right.arguments
 is_taken words right =
@@ -111,13 +108,17 @@ right_command words right =
 same_inside : {A : Type 0} {x y : A} → Some x ≡ Some y → x ≡ y
 same_inside e = cc
 
--- right words give a command other than `info`
-pub other_than_info : (words : List Text) → AreRightWords words → IsOther (codes "info") (subcommand_of metaplay_app words)
-other_than_info words right given met =
+-- right words name no command on several files
+no_batch_named : (words : List Text) → AreRightWords words → (name : Text) (given : List Row) → subcommand_of metaplay_app words ≡ Some (name, given) → is_batch name ≡ true → ⊥
+no_batch_named words right name given met is =
     let taken = is_taken words right in
     let command = taken.right right.program in
-    let at : subcommand_of metaplay_app (right.program ∷ right.command ∷ right.arguments) ≡ Some (codes "info", given) = subst (λ (l : List Text). subcommand_of metaplay_app l ≡ Some (codes "info", given)) right.are met in
-    let named : command.name ≡ codes "info" = ap (λ (both : Text × List Row). both.0) (same_inside (sym command.command ∙ at)) in
+    let at : subcommand_of metaplay_app (right.program ∷ right.command ∷ right.arguments) ≡ Some (name, given) = subst (λ (l : List Text). subcommand_of metaplay_app l ≡ Some (name, given)) right.are met in
+    let named : command.name ≡ name = ap (λ (both : Text × List Row). both.0) (same_inside (sym command.command ∙ at)) in
     let usage = right.right in
-    let apart : BeginsOtherwise usage.1 = subst BeginsOtherwise usage.3 (none_is_info usage.0 usage.1 usage.2) in
-    apart (ap first_byte (usage.4.0 ∙ (sym (taken.named right.program) ∙ named)))
+    let of_one : is_of_one usage.1 ≡ true = subst (λ (u : Text × List ArgumentKind). is_of_one u ≡ true) usage.3 (AllPass-from_list_all is_of_one usages all_of_one usage.0 usage.1 usage.2) in
+    let batch : is_batch usage.1.0 ≡ true = subst (λ (n : Text). is_batch n ≡ true) (sym (usage.4.0 ∙ (sym (taken.named right.program) ∙ named))) is in
+    let bad : false ≡ true = sym (ap not batch) ∙ of_one in cc
+
+pub no_batch : (words : List Text) → AreRightWords words → IsNoBatch (subcommand_of metaplay_app words)
+no_batch words right = (λ given met. no_batch_named words right (codes "info") given met refl, λ given met. no_batch_named words right (codes "certify") given met refl)

@@ -9,9 +9,11 @@ use Rattle.command_lines.specs.declared.asked.CommandLine.{CommandLine}
 use Rattle.command_lines.specs.declared.asked.CommandLine.TheVariants.{Check, List as ListLine, Over, Play, Prepare, Show}
 use Rattle.command_lines.specs.CommandLine.{AreOfWords, GivesName, GivesNumber, GivesDimensions, HasWords, IsAskedByWords, IsPlainWord, metaplay_app, number_of}
 use Rattle.command_lines.specs.Asked.{HasPlainWords, IsAskedFor, IsFound}
-use Rattle.command_lines.specs.InfoWords.{AsksInfoByWords, names_in}
+use Rattle.command_lines.specs.BatchWords.{AsksBatchByWords, batch_name, names_in}
 use Rattle.command_lines.specs.declared.asked.Asked.{Asked}
-use Rattle.command_lines.specs.declared.asked.Asked.TheVariants.{Command, Info, Version}
+use Rattle.command_lines.specs.declared.asked.Asked.TheVariants.{Batch, Command, Version}
+use Rattle.command_lines.specs.declared.asked.BatchTask.{BatchTask}
+use Rattle.command_lines.specs.declared.asked.BatchTask.TheVariants.{Certify, Info}
 use Rattle.command_lines.specs.RightWords as kind
 use Rattle.command_lines.specs.RuleWords.{rules_asked}
 use Rattle.command_lines.proofs.KindLemmas.{kinds_end, rows_kinds}
@@ -106,15 +108,20 @@ given_words (ListLine name rules) program file wide high plain_file plain_wide p
     let rows = shown_rows program file wide high plain_file plain_wide plain_high in
     let bad : is_byte 115 108 = one_name _ _ _ _ _ rows asked.command in absurd (omega (arith, bad))
 
+-- no task on several files has the command `show`
+other_name : {P : Type 0} (task : BatchTask) → is_byte 115 (first_byte (batch_name task)) → P
+other_name (Info rules) is = let bad : is_byte 115 105 = is in absurd (omega (arith, bad))
+other_name (Certify rules width height folder replace) is = let bad : is_byte 115 99 = is in absurd (omega (arith, bad))
+
 -- what these five words ask for
 pub plain_words : (words : List Text) (asked : Asked) → IsAskedFor words asked → HasPlainWords words asked
 plain_words words (Command line) asked program file wide high plain_file plain_wide plain_high is =
     given_words line program file wide high plain_file plain_wide plain_high (subst (λ (l : List Text). IsAskedByWords l line) is asked)
-plain_words words (Info names rules) asked program file wide high plain_file plain_wide plain_high is =
+plain_words words (Batch names task) asked program file wide high plain_file plain_wide plain_high is =
     let rows = shown_rows program file wide high plain_file plain_wide plain_high in
-    let about : AsksInfoByWords (program ∷ codes "show" ∷ file ∷ wide ∷ high ∷ []) (names_in names.items) rules =
-    subst (λ (l : List Text). AsksInfoByWords l (names_in names.items) rules) is asked in
-    let bad : is_byte 115 105 = one_name _ _ _ _ _ rows about.command in absurd (omega (arith, bad))
+    let about : AsksBatchByWords (program ∷ codes "show" ∷ file ∷ wide ∷ high ∷ []) (names_in names.items) task =
+    subst (λ (l : List Text). AsksBatchByWords l (names_in names.items) task) is asked in
+    other_name task (one_name _ _ _ _ _ rows about.command)
 plain_words words Version asked program file wide high plain_file plain_wide plain_high is =
     let five : program ∷ codes "show" ∷ file ∷ wide ∷ high ∷ [] ≡ asked.program ∷ asked.word ∷ [] = sym is ∙ asked.are in
     cc
@@ -122,5 +129,5 @@ plain_words words Version asked program file wide high plain_file plain_wide pla
 -- what is found is what is asked for
 pub asked_for : (words : List Text) (asked : Asked) → IsFound (subcommand_of metaplay_app words) asked → IsAskedFor words asked
 asked_for words (Command line) found = found
-asked_for words (Info names rules) found = found
+asked_for words (Batch names task) found = found
 asked_for words Version found = absurd found

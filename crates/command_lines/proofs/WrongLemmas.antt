@@ -11,7 +11,7 @@ use Rattle.clap.specs.declared.error.kind.ErrorKind.TheVariants as kind
 use Rattle.clap.proofs.OnLiterals.{clap_on_literals}
 use Rattle.command_lines.specs.CommandLine.{metaplay_app}
 use Rattle.command_lines.specs.WrongWords.{GiveRulesBesideCertificate, IsNoEnd, IsOption, IsRuleOption, certified_commands}
-use Rattle.command_lines.proofs.InfoLemmas.{top, top_names, words_stay}
+use Rattle.command_lines.proofs.BatchLemmas.{top, top_names, words_stay}
 use Rattle.command_lines.proofs.KindLemmas.{no_command}
 use Rattle.command_lines.proofs.OpenLemmas.{IsOpen, is_open_rule, not_end, walked_open}
 use Rattle.command_lines.proofs.UsageLemmas.{all_of_list, built_shape}

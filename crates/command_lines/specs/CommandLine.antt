@@ -87,6 +87,18 @@ files_rule = record (name_rule (codes "FILE")) { action = Some Append; range = S
 abbrev pub info_app : App
 info_app = with_rules (with_rule (new_app (codes "info")) files_rule)
 
+-- --out-dir DIR, which is required
+abbrev pub folder_rule : Rule
+folder_rule = record (name_rule (codes "DIR")) { long = Some (codes "out-dir") }
+
+-- --replace
+abbrev pub replace_rule : Rule
+replace_rule = record (new_rule (codes "replace")) { long = Some (codes "replace"); action = Some SetTrue }
+
+-- certify --out-dir DIR [--replace] [--profile PROFILE] [--allow NAME]... W H FILE...
+abbrev pub certify_app : App
+certify_app = with_rules (with_rule (with_rule (with_rule (with_dimensions (new_app (codes "certify"))) files_rule) folder_rule) replace_rule)
+
 -- metaplay without its commands; a command is required
 abbrev pub bare_app : App
 bare_app = record (new_app (codes "metaplay")) { top = record (new_app (codes "metaplay")).top { subcommand_required = true } }
@@ -96,10 +108,12 @@ abbrev pub metaplay_app : App
 metaplay_app =
     with_subcommand
     (with_subcommand
+    (with_subcommand
     (with_subcommand (with_subcommand (with_subcommand (with_subcommand (with_subcommand bare_app show_app.top) prepare_app.top) check_app.top) play_app.top)
     over_app.top)
     list_app.top)
-    info_app.top
+    info_app.top)
+    certify_app.top
 
 -- the number of a text: its decimal digits, after an optional plus sign
 abbrev pub number_of : Text → ℕ

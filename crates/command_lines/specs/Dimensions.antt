@@ -1,6 +1,8 @@
 -- The names and sizes of a command line.
 use Rattle.std.specs.Prelude.{ℕ, List, IfSome}
 use Rattle.mapping.specs.Limits.{IsSurfaceSide}
+use Rattle.command_lines.specs.declared.asked.BatchTask.{BatchTask}
+use Rattle.command_lines.specs.declared.asked.BatchTask.TheVariants.{Certify, Info}
 use Rattle.command_lines.specs.declared.asked.CommandLine.{CommandLine}
 use Rattle.command_lines.specs.declared.asked.CommandLine.TheVariants.{Check, List as ListLine, Over, Play, Prepare, Show}
 
@@ -26,6 +28,11 @@ HasDimensions (Check file certificate) = Unit
 HasDimensions (Play file certificate width height bands fit) = AreDimensions width height × IfSome bands IsSurfaceSide
 HasDimensions (Over file certificate image) = Unit
 HasDimensions (ListLine file rules) = Unit
+
+-- the width and height of a task on several files are valid, if it has them
+abbrev pub HasTaskDimensions : BatchTask → Type 0
+HasTaskDimensions (Info rules) = Unit
+HasTaskDimensions (Certify rules width height folder replace) = AreDimensions width height
 
 -- a statement holds for a command line with valid sizes
 pub record HoldsOfSome (holds : CommandLine → Type 0) : Type 0 where

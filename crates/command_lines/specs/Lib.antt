@@ -1,9 +1,9 @@
 pub mod Apps
 pub mod Asked
+pub mod BatchWords
 pub mod CommandLine
 pub mod Dimensions
 pub mod HelpWords
-pub mod InfoWords
 pub mod RightWords
 pub mod RuleWords
 pub mod VersionWords

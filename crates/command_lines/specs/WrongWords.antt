@@ -22,7 +22,7 @@ certified_commands = codes "check" ∷ codes "play" ∷ codes "over" ∷ []
 
 -- the commands that are given their rules
 abbrev pub ruled_commands : List Text
-ruled_commands = codes "show" ∷ codes "prepare" ∷ codes "list" ∷ codes "info" ∷ []
+ruled_commands = codes "show" ∷ codes "prepare" ∷ codes "list" ∷ codes "info" ∷ codes "certify" ∷ []
 
 -- the program's name, a command that takes its rules from a certificate, and an option for the rules among its words
 pub record GiveRulesBesideCertificate (words : List Text) : Type 0 where

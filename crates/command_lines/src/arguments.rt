@@ -1,6 +1,6 @@
 //! What the arguments of a command are.
 
-ghost use Rattle.std.specs.Prelude.{◌≡◌, IfSome, IsSome, codes};
+ghost use Rattle.std.specs.Prelude.{◌≡◌, IfSome, IsSome};
 ghost use Rattle.clap.specs.Words.{first_of, found_of, rows_of};
 ghost use Rattle.mapping.specs.Limits.{IsSurfaceSide};
 ghost use Rattle.command_lines.specs.CommandLine.{GivesAll, GivesArgument, GivesBands, GivesDimensions, GivesFlag, GivesName, GivesNumber, GivesSide, bands_rule, side_rules};
@@ -47,11 +47,11 @@ pub(crate) fn bands_of(given: &ArgMatches<'_>) -> Option<Option<u32>>
     Some(Some(rows))
 }
 
-/// Whether the proportion of the frame is asked for.
-pub(crate) fn fit_of(given: &ArgMatches<'_>) -> bool
-    ensures { GivesFlag (rows_of (found_of given.now)) (codes "fit") result }
+/// Whether an option without a value is given.
+pub(crate) fn flag_of(given: &ArgMatches<'_>, id: &str) -> bool
+    ensures { GivesFlag (rows_of (found_of given.now)) id.now result }
 {
-    given.get_flag("fit")
+    given.get_flag(id)
 }
 
 /// A width or a height, if it is in range, which the parser ensures.

@@ -10,10 +10,29 @@ pub const STANDARD_INPUT: &str = "stdin";
 pub enum Asked<'a> {
     /// A command on one file.
     Command(CommandLine<'a>),
-    /// Information about the files with these names, of which at most one is the word `stdin`, by these rules.
-    Info { names: Vec<&'a str>, rules: Rules },
+    /// A task on the files with these names.
+    Batch {
+        names: Vec<&'a str>,
+        task: BatchTask<'a>,
+    },
     /// The program's version.
     Version,
+}
+
+/// What is done with each of several files.
+#[derive(Clone, Copy, Debug, PartialEq, Eq)]
+pub enum BatchTask<'a> {
+    /// A line about each file, by these rules. At most one of the names is the word `stdin`.
+    Info { rules: Rules },
+    /// A certificate for each file, for surfaces of at most this size, in this folder. With `replace` it takes the place
+    /// of a plain file there. No name is the word `stdin`.
+    Certify {
+        rules: Rules,
+        width: u32,
+        height: u32,
+        folder: &'a str,
+        replace: bool,
+    },
 }
 
 /// A command with its arguments. A file name is the name of a file; FILE may also be the word `stdin`. The commands that

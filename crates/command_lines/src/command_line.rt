@@ -1,21 +1,20 @@
 //! Parses the command line.
 
-ghost use Rattle.std.specs.Prelude.{◌≡◌, ◌≤◌, ◌↔◌, IfErr, IfOk, IfSome, IsSome, Ok, Some, codes, count_by, length, true};
-ghost use Rattle.std.specs.Str.{bytes_eq};
+ghost use Rattle.std.specs.Prelude.{◌≡◌, ◌≤◌, ◌↔◌, IfErr, IfOk, IfSome, IsSome, Ok, codes, length, true};
 ghost use Rattle.clap.specs.Lexer.{usize_max};
-ghost use Rattle.clap.specs.Words.{all_of, found_of, kind_of, rows_of, subcommand_rows_of};
-ghost use Rattle.command_lines.specs.Asked.{HasPlainWords, HoldsInfo, IsAskedFor, IsFound, IsValid};
+ghost use Rattle.clap.specs.Words.{found_of, kind_of, rows_of, subcommand_rows_of};
+ghost use Rattle.command_lines.specs.Asked.{HasPlainWords, IsAskedFor, IsFound, IsValid};
 ghost use Rattle.command_lines.specs.CommandLine.{AreRightArguments, GivesAll, HoldsWords, IsAskedBy, IsRightCommand, command_name, texts_of};
 ghost use Rattle.command_lines.specs.CommandLine.{check_app, list_app, over_app, play_app, prepare_app, show_app};
-ghost use Rattle.command_lines.specs.InfoWords.{AreAccepted, AreCommandWords, AsksInfoOnce, GivesNamesOnce, HasOneInput, IsOther, names_in};
+ghost use Rattle.command_lines.specs.BatchWords.{AreAccepted, AreCommandWords, AsksRightCertify, AsksRightInfo, IsNoBatch};
 ghost use Rattle.command_lines.specs.Dimensions.{HasDimensions};
 ghost use Rattle.command_lines.specs.HelpWords.{AsksHelp};
-ghost use Rattle.command_lines.specs.RuleWords.{AreRightRules};
 ghost use Rattle.command_lines.specs.VersionWords.{AreVersionWords};
 ghost use Rattle.command_lines.specs.WrongWords.{AreWrongWords};
 
-use crate::arguments::{bands_of, dimensions_of, fit_of, name_of};
-use crate::asked::{Asked, CommandLine, STANDARD_INPUT};
+use crate::arguments::{bands_of, dimensions_of, flag_of, name_of};
+use crate::asked::{Asked, CommandLine};
+use crate::batch::{asked_certify, asked_info};
 use crate::declared::{command_named, metaplay};
 use crate::rule_words::rules_of;
 use clap::error::ErrorKind;
@@ -55,7 +54,7 @@ fn asks_version(words: &[String]) -> bool
     words.len() == 2 && (words[1].as_str() == "--version" || words[1].as_str() == "-V")
 }
 
-/// `clap` counts the words of `info` in a `usize`.
+/// `clap` counts words in a `usize`.
 fn count_law(words: &[String])
     ensures { length words.now ≤ usize_max }
 {
@@ -73,70 +72,40 @@ fn wrong_usage(alloc: Global, matches: &ArgMatches<'_>) -> Result<Error, AllocEr
 
 /// What is wrong with what was found: the arguments for its rules, or its names.
 fn why_wrong(matches: &ArgMatches<'_>) -> &'static str {
-    if let Some((_, given)) = matches.subcommand() {
+    if let Some((name, given)) = matches.subcommand() {
         if let Err(wrong) = rules_of(given) {
             return wrong.text();
+        }
+        if name == "certify" {
+            return "certify doesn't read standard input";
         }
     }
     "standard input was given more than once"
 }
 
-/// What was found, if its numbers are in range and its rules right, and if at most one of its names is the word for
-/// standard input.
+/// What was found, if its numbers are in range and its rules right, and if no more of its names are the word for
+/// standard input than its command may read.
 fn asked<'a>(alloc: Global, matches: &ArgMatches<'a>) -> Result<Option<Asked<'a>>, AllocError>
     ensures valid { IfOk result (λ asked. IfSome asked IsValid) }
     ensures asked { IfOk result (λ asked. IfSome asked (IsFound (subcommand_rows_of matches.now))) }
-    ensures command_taken { IfOk result (λ asked. IsRightCommand (subcommand_rows_of matches.now) → IsOther (codes "info") (subcommand_rows_of matches.now) → IsSome asked) }
-    ensures info_taken { IfOk result (λ asked. AsksInfoOnce (subcommand_rows_of matches.now) → IsSome asked) }
+    ensures command_taken { IfOk result (λ asked. IsRightCommand (subcommand_rows_of matches.now) → IsNoBatch (subcommand_rows_of matches.now) → IsSome asked) }
+    ensures info_taken { IfOk result (λ asked. AsksRightInfo (subcommand_rows_of matches.now) → IsSome asked) }
+    ensures certify_taken { IfOk result (λ asked. AsksRightCertify (subcommand_rows_of matches.now) → IsSome asked) }
 {
     if let Some(given) = matches.subcommand_matches("info") {
         return asked_info(alloc, given);
     }
-    Ok(asked_command(matches).map(Asked::Command))
-}
-
-/// The names and the rules of `info`.
-fn asked_info<'a>(alloc: Global, given: &ArgMatches<'a>) -> Result<Option<Asked<'a>>, AllocError>
-    ensures valid { IfOk result (λ asked. IfSome asked IsValid) }
-    ensures gives { IfOk result (λ asked. IfSome asked (HoldsInfo (rows_of (found_of given.now)))) }
-    ensures taken { IfOk result (λ asked. GivesNamesOnce (rows_of (found_of given.now)) → AreRightRules (rows_of (found_of given.now)) → IsSome asked) }
-{
-    let Ok(rules) = rules_of(given) else {
-        return Ok(None);
-    };
-    let Some(names) = names_of(alloc, given)? else {
-        return Ok(None);
-    };
-    Ok(Some(Asked::Info { names, rules }))
-}
-
-/// The files' names, if at most one of them is the word for standard input.
-fn names_of<'a>(alloc: Global, given: &ArgMatches<'a>) -> Result<Option<Vec<&'a str>>, AllocError>
-    ensures given { IfOk result (λ given_names. IfSome given_names (λ names. all_of (codes "FILE") (rows_of (found_of given.now)) ≡ Some (names_in names.items))) }
-    ensures once { IfOk result (λ given_names. IfSome given_names (λ names. HasOneInput (names_in names.items))) }
-    ensures taken { IfOk result (λ given_names. GivesNamesOnce (rows_of (found_of given.now)) → IsSome given_names) }
-{
-    let Some(names) = given.get_strs("FILE") else {
-        return Ok(None);
-    };
-    if inputs_in(names) > 1 {
-        return Ok(None);
+    if let Some(given) = matches.subcommand_matches("certify") {
+        return asked_certify(alloc, given);
     }
-    Ok(Some(names.to_vec(alloc)?))
-}
-
-/// How many of the names are the word for standard input.
-fn inputs_in(names: &[&str]) -> usize
-    ensures { result ≡ count_by (λ name. bytes_eq name (codes "stdin")) (names_in names.now) }
-{
-    names.iter().filter(|name| **name == STANDARD_INPUT).count()
+    Ok(asked_command(matches).map(Asked::Command))
 }
 
 /// The command on one file that was found, if its numbers are in range.
 fn asked_command<'a>(matches: &ArgMatches<'a>) -> Option<CommandLine<'a>>
     ensures dimensions { IfSome result HasDimensions }
     ensures asked { IfSome result (IsAskedBy (subcommand_rows_of matches.now)) }
-    ensures taken { IsRightCommand (subcommand_rows_of matches.now) → IsOther (codes "info") (subcommand_rows_of matches.now) → IsSome result }
+    ensures taken { IsRightCommand (subcommand_rows_of matches.now) → IsNoBatch (subcommand_rows_of matches.now) → IsSome result }
 {
     if let Some(given) = matches.subcommand_matches("show") {
         return asked_show(given);
@@ -180,7 +149,7 @@ fn asked_show<'a>(given: &ArgMatches<'a>) -> Option<CommandLine<'a>>
         rules,
         width,
         height,
-        fit: fit_of(given),
+        fit: flag_of(given, "fit"),
     })
 }
 
@@ -253,7 +222,7 @@ fn asked_play<'a>(given: &ArgMatches<'a>) -> Option<CommandLine<'a>>
         width,
         height,
         bands,
-        fit: fit_of(given),
+        fit: flag_of(given, "fit"),
     })
 }
 

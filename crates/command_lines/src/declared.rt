@@ -1,17 +1,13 @@
 //! The command line, as declared to `clap`.
 
-ghost use Rattle.std.specs.Prelude.{◌≡◌, IfOk, false};
-ghost use Rattle.clap.specs.Words.{app_of, rule_of};
-ghost use Rattle.command_lines.specs.CommandLine.{check_app, file_app, info_app, list_app, metaplay_app, name_rule, over_app};
-ghost use Rattle.command_lines.specs.CommandLine.{allow_rule, bands_rule, files_rule, fit_rule, play_app, prepare_app, profile_rule, show_app, side_rule};
+ghost use Rattle.std.specs.Prelude.{◌≡◌, IfOk};
+ghost use Rattle.clap.specs.Words.{app_of};
+ghost use Rattle.command_lines.specs.CommandLine.{certify_app, check_app, file_app, info_app, list_app, metaplay_app, over_app, play_app, prepare_app, show_app};
 ghost use Rattle.command_lines.specs.Apps.{AddsDimensions, AddsRules, IsLocalApp};
 
-use clap::{Arg, ArgAction, Command, value_parser};
-use mapping::MAX_SURFACE_SIDE;
+use crate::declared_arguments::{allow, bands, files, fit, folder, name, profile, replace, side};
+use clap::Command;
 use std::alloc::{AllocError, Global};
-
-/// The most rows that a band may have: as many as the largest surface.
-const MOST_ROWS: u32 = MAX_SURFACE_SIDE;
 
 /// The text above the list of commands in the help.
 const ABOUT: &str = "Checks Windows metafiles (WMF, EMF) and plays them on a pixel surface.
@@ -30,10 +26,12 @@ const GUIDE: &str = "Examples:
   metaplay over drawing.wmf drawing.cert page.ppm > printed.ppm
   metaplay list drawing.wmf
   metaplay info drawing.wmf other.emf
+  metaplay certify --out-dir certs 4096 4096 drawing.wmf other.emf
   metaplay --version
 
-FILE may be the word stdin, for standard input. Images are P6 (ppm(5)). The
-report of check, and what info writes about a file, is one line of JSON.
+FILE may be the word stdin, for standard input, but not for certify. Images are
+P6 (ppm(5)). The report of check, and what info writes about a file, is one line
+of JSON.
 --version, or -V, prints the version and a checksum of the sources.
 
 Exit status:
@@ -59,6 +57,7 @@ pub(crate) fn metaplay<'a>(alloc: Global) -> Result<Command<'a>, AllocError>
     let over = over(alloc)?;
     let list = list(alloc)?;
     let info = info(alloc)?;
+    let certify = certify(alloc)?;
     Command::new(alloc, "metaplay")
         .bin_name("metaplay")?
         .about(ABOUT)
@@ -70,7 +69,8 @@ pub(crate) fn metaplay<'a>(alloc: Global) -> Result<Command<'a>, AllocError>
         .subcommand(play)?
         .subcommand(over)?
         .subcommand(list)?
-        .subcommand(info)
+        .subcommand(info)?
+        .subcommand(certify)
 }
 
 /// The command with this name by itself, or else the whole command line: an error of it shows its usage.
@@ -86,6 +86,9 @@ pub(crate) fn command_named<'a>(alloc: Global, name: &str) -> Result<Command<'a>
     }
     if name == "info" {
         return info(alloc)?.bin_name("metaplay info");
+    }
+    if name == "certify" {
+        return certify(alloc)?.bin_name("metaplay certify");
     }
     metaplay(alloc)
 }
@@ -162,7 +165,20 @@ fn info<'a>(alloc: Global) -> Result<Command<'a>, AllocError>
 {
     let command = Command::new(alloc, "info")
         .about("Writes one line of JSON about each metafile")
-        .arg(files(alloc))?;
+        .arg(files(alloc, "The metafiles; one may be the word stdin"))?;
+    with_rules(alloc, command)
+}
+
+/// The command `certify`.
+fn certify<'a>(alloc: Global) -> Result<Command<'a>, AllocError>
+    ensures { IfOk result (IsLocalApp certify_app) }
+{
+    let command = Command::new(alloc, "certify").about("Writes a certificate for each metafile into a folder");
+    let command = with_dimensions(alloc, command)?;
+    let command = command
+        .arg(files(alloc, "The metafiles"))?
+        .arg(folder(alloc))?
+        .arg(replace(alloc))?;
     with_rules(alloc, command)
 }
 
@@ -190,84 +206,4 @@ fn with_rules<'a>(alloc: Global, command: Command<'a>) -> Result<Command<'a>, Al
     ensures { IfOk result (AddsRules command.entry) }
 {
     command.arg(profile(alloc))?.arg(allow(alloc))
-}
-
-/// A file's name.
-fn name<'a>(alloc: Global, id: &'a str, help: &'a str) -> Arg<'a>
-    ensures rule { rule_of result ≡ name_rule id.entry.now }
-    ensures local { result.global ≡ false }
-{
-    Arg::new(alloc, id)
-        .required(true)
-        .action(ArgAction::Set)
-        .help(help)
-}
-
-/// The names of one or more files.
-fn files<'a>(alloc: Global) -> Arg<'a>
-    ensures rule { rule_of result ≡ files_rule }
-    ensures local { result.global ≡ false }
-{
-    Arg::new(alloc, "FILE")
-        .required(true)
-        .num_args(1..)
-        .action(ArgAction::Append)
-        .help("The metafiles; one may be the word stdin")
-}
-
-/// The option for the number of rows in a band.
-fn bands<'a>(alloc: Global) -> Arg<'a>
-    ensures rule { rule_of result ≡ bands_rule }
-    ensures local { result.global ≡ false }
-{
-    Arg::new(alloc, "ROWS")
-        .long("bands")
-        .action(ArgAction::Set)
-        .value_parser(value_parser!(u32).range(1..=i64::from(MOST_ROWS)))
-        .help("How many rows to play at a time; the image is the same")
-}
-
-/// The option for the proportion of the frame.
-fn fit<'a>(alloc: Global) -> Arg<'a>
-    ensures rule { rule_of result ≡ fit_rule }
-    ensures local { result.global ≡ false }
-{
-    Arg::new(alloc, "fit")
-        .long("fit")
-        .action(ArgAction::SetTrue)
-        .help("Keep the picture's proportion; W and H are then the most")
-}
-
-/// The option for the profile.
-fn profile<'a>(alloc: Global) -> Arg<'a>
-    ensures rule { rule_of result ≡ profile_rule }
-    ensures local { result.global ≡ false }
-{
-    Arg::new(alloc, "PROFILE")
-        .long("profile")
-        .action(ArgAction::Set)
-        .help("The rules: core (the default), or print for large surfaces")
-}
-
-/// The option for what the print profile allows.
-fn allow<'a>(alloc: Global) -> Arg<'a>
-    ensures rule { rule_of result ≡ allow_rule }
-    ensures local { result.global ≡ false }
-{
-    Arg::new(alloc, "NAME")
-        .long("allow")
-        .action(ArgAction::Append)
-        .help("With print: also accept held-deletion or emf-plus")
-}
-
-/// The width or the height of the surface.
-fn side<'a>(alloc: Global, id: &'a str, help: &'a str) -> Arg<'a>
-    ensures rule { rule_of result ≡ side_rule id.entry.now }
-    ensures local { result.global ≡ false }
-{
-    Arg::new(alloc, id)
-        .required(true)
-        .action(ArgAction::Set)
-        .value_parser(value_parser!(u32).range(1..=i64::from(MAX_SURFACE_SIDE)))
-        .help(help)
 }

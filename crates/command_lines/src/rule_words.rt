@@ -3,7 +3,7 @@
 ghost use Rattle.std.specs.Prelude.{◌≡◌, IfErr, IfOk, IsOk, codes, option_map, true};
 ghost use Rattle.std.specs.List.{list_all};
 ghost use Rattle.clap.specs.Words.{all_of, first_of, found_of, rows_of};
-ghost use Rattle.command_lines.specs.InfoWords.{names_in};
+ghost use Rattle.command_lines.specs.BatchWords.{names_in};
 ghost use Rattle.command_lines.specs.RuleWords.{AreRightRules, GivesRules, allowances_asked, asks_print, has_allow, has_allowances, has_profile, is_allowance, is_allowed, is_among, rules_asked};
 ghost use Rattle.command_lines.specs.WrongRules.{AreWrongBy};
 

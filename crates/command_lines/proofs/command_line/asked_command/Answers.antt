@@ -50,7 +50,7 @@ returns-clause-taken c = λ right other.
           c.in_default-subcommand_matches-2.ensures.found.1,
           (
             c.in_default-subcommand_matches-3.ensures.found.1,
-            (c.in_default-subcommand_matches-4.ensures.found.1, (c.in_default-subcommand_matches-5.ensures.found.1, (other_met _ (codes "info") other, tt))),
+            (c.in_default-subcommand_matches-4.ensures.found.1, (c.in_default-subcommand_matches-5.ensures.found.1, (other_met _ (codes "info") other.0, (other_met _ (codes "certify") other.1, tt)))),
           ),
         ),
       ),

@@ -7,9 +7,9 @@ use Rattle.clap.specs.declared.error.kind.ErrorKind.TheVariants.{DisplayHelp, Ou
 use Rattle.command_lines.specs.Asked.{IsFound}
 use Rattle.command_lines.specs.CommandLine.{IsRightCommand, metaplay_app, texts_of}
 use Rattle.command_lines.specs.HelpWords.{AsksHelp}
-use Rattle.command_lines.specs.InfoWords.{AreAccepted, AreCommandWords, AsksInfoOnce, IsOther}
+use Rattle.command_lines.specs.BatchWords.{AreAccepted, AreCommandWords, AsksRightCertify, AsksRightInfo, IsNoBatch}
 use Rattle.command_lines.specs.declared.asked.Asked.{Asked}
-use Rattle.command_lines.proofs.InfoLemmas.{command_words_found, command_words_taken, few_texts}
+use Rattle.command_lines.proofs.CommandLemmas.{command_words_found, command_words_taken, few_texts}
 use Rattle.command_lines.proofs.ProfileLemmas.{none_wrong}
 use Rattle.command_lines.proofs.WordLemmas.{asked_for, plain_words}
 use Rattle.command_lines.proofs.command_line.line.Goals as goal
@@ -57,8 +57,11 @@ returns-clause-accepted c = λ accepted.
     let met : subcommand_rows_of c.in_ok-matches.matches ≡ subcommand_of metaplay_app (texts_of c.args.words.now) =
     (c.in_ok-matches.ensures.ok.2 (ap is_simple app)).1 ∙ ap (λ (a : App). subcommand_of a (texts_of c.args.words.now)) app in
     let found : false ≡ true = elim accepted.right [
-      | inl command ↦ subst IsSome c.in-None.is (c.in_ok-asked.ensures.command_taken (subst IsRightCommand (sym met) command.0) (subst (IsOther (codes "info")) (sym met) command.1))
-      | inr info ↦ subst IsSome c.in-None.is (c.in_ok-asked.ensures.info_taken (subst AsksInfoOnce (sym met) info))
+      | inl command ↦ subst IsSome c.in-None.is (c.in_ok-asked.ensures.command_taken (subst IsRightCommand (sym met) command.0) (subst IsNoBatch (sym met) command.1))
+      | inr batch ↦ elim batch [
+          | inl info ↦ subst IsSome c.in-None.is (c.in_ok-asked.ensures.info_taken (subst AsksRightInfo (sym met) info))
+          | inr certify ↦ subst IsSome c.in-None.is (c.in_ok-asked.ensures.certify_taken (subst AsksRightCertify (sym met) certify))
+        ]
     ] in
     cc
 
@@ -67,7 +70,8 @@ returns-clause-taken c = λ right.
     let app : app_of c.in_ok-command.command ≡ metaplay_app = c.in_ok-command.ensures in
     let met : subcommand_rows_of c.in_ok-matches.matches ≡ subcommand_of metaplay_app (texts_of c.args.words.now) =
     (c.in_ok-matches.ensures.ok.2 (ap is_simple app)).1 ∙ ap (λ (a : App). subcommand_of a (texts_of c.args.words.now)) app in
-    let bad : false ≡ true = command_words_found (texts_of c.args.words.now) _ false met (λ right other. subst IsSome c.in-None.is (c.in_ok-asked.ensures.command_taken right other)) (λ info. subst IsSome c.in-None.is (c.in_ok-asked.ensures.info_taken info)) (no_version c.asks_version.result c.if-asks_version.false c.asks_version.ensures) right in
+    let bad : false ≡ true = command_words_found (texts_of c.args.words.now) _ false met (λ right other. subst IsSome c.in-None.is (c.in_ok-asked.ensures.command_taken right other)) (λ info. subst IsSome c.in-None.is (c.in_ok-asked.ensures.info_taken info))
+    (λ certify. subst IsSome c.in-None.is (c.in_ok-asked.ensures.certify_taken certify)) (no_version c.asks_version.result c.if-asks_version.false c.asks_version.ensures) right in
     cc
 
 pub returns-in-Some-clause-refused : goal.returns-in-Some-clause-refused

@@ -3,7 +3,7 @@ use Rattle.std.proofs.Common.{◌≡◌, ◌∙◌, ap, ap₂, codes, true}
 use Rattle.std.proofs.lemmas.Result.{IfOk-weaker}
 use Rattle.clap.specs.Words.{App, app_of, new_app, with_subcommand}
 use Rattle.clap.specs.Simple.{app_of_fields}
-use Rattle.command_lines.specs.CommandLine.{bare_app, check_app, list_app, over_app, play_app, prepare_app, show_app}
+use Rattle.command_lines.specs.CommandLine.{bare_app, check_app, info_app, list_app, over_app, play_app, prepare_app, show_app}
 use Rattle.command_lines.proofs.declared.metaplay.Goals as goal
 
 pub returns : goal.returns
@@ -30,4 +30,12 @@ returns c =
     over_app.top)
     list_app.top =
     c.in_ok-subcommand-6.ensures.shape c.in_ok-list.ensures.local ∙ ap₂ with_subcommand five (ap (λ (a : App). a.top) c.in_ok-list.ensures.is) in
-    IfOk-weaker c.subcommand-7.result _ _ (λ r added. added.shape c.in_ok-info.ensures.local ∙ ap₂ with_subcommand six (ap (λ (a : App). a.top) c.in_ok-info.ensures.is)) c.subcommand-7.ensures
+    let seven : app_of c.in_ok-subcommand-7.field-0 ≡
+    with_subcommand
+    (with_subcommand
+    (with_subcommand (with_subcommand (with_subcommand (with_subcommand (with_subcommand bare_app show_app.top) prepare_app.top) check_app.top) play_app.top)
+    over_app.top)
+    list_app.top)
+    info_app.top =
+    c.in_ok-subcommand-7.ensures.shape c.in_ok-info.ensures.local ∙ ap₂ with_subcommand six (ap (λ (a : App). a.top) c.in_ok-info.ensures.is) in
+    IfOk-weaker c.subcommand-8.result _ _ (λ r added. added.shape c.in_ok-certify.ensures.local ∙ ap₂ with_subcommand seven (ap (λ (a : App). a.top) c.in_ok-certify.ensures.is)) c.subcommand-8.ensures

@@ -1,7 +1,7 @@
 -- The names before the current one may be allowed.
 use Rattle.std.proofs.Common.{◌≡◌, drop}
 use Rattle.std.specs.List.{list_all}
-use Rattle.command_lines.specs.InfoWords.{names_in}
+use Rattle.command_lines.specs.BatchWords.{names_in}
 use Rattle.command_lines.specs.RuleWords.{is_allowance}
 use Rattle.command_lines.proofs.rule_words.are_allowances.Given as goal
 

@@ -4,7 +4,7 @@ use Rattle.clap.specs.Words.{Text, found_of, one_text, rows_of}
 use Rattle.clap.specs.declared.parser.matches.Found.{Found}
 use Rattle.clap.proofs.WalkLemmas.{one_text-rows}
 use Rattle.command_lines.specs.CommandLine.{GivesFlag}
-use Rattle.command_lines.proofs.arguments.fit_of.Goals as goal
+use Rattle.command_lines.proofs.arguments.flag_of.Goals as goal
 
 flag_read : (f : Found) (id : Text) (flag : Bool) → (one_text f id ≡ None → flag ≡ false) → (one_text f id ≡ Some (codes "true") → flag ≡ true)
     → (one_text f id ≡ Some (codes "false") → flag ≡ false) → GivesFlag (rows_of f) id flag
@@ -15,4 +15,4 @@ flag_read f id flag none value other = record {
 }
 
 pub returns : goal.returns
-returns c = flag_read (found_of c.args.given.now) (codes "fit") c.get_flag.result c.get_flag.ensures.none c.get_flag.ensures.value c.get_flag.ensures.other
+returns c = flag_read (found_of c.args.given.now) c.args.id.now c.get_flag.result c.get_flag.ensures.none c.get_flag.ensures.value c.get_flag.ensures.other

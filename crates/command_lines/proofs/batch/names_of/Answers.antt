@@ -2,8 +2,8 @@
 use Rattle.std.proofs.Common.{◌≡◌, ◌∙◌, ap, sym, codes, Some, List, ℕ, Bor, arith}
 use Rattle.clap.specs.Words.{found_of}
 use Rattle.clap.proofs.WalkLemmas.{raw_values-rows}
-use Rattle.command_lines.specs.InfoWords.{HasOneInput, names_in}
-use Rattle.command_lines.proofs.command_line.names_of.Goals as goal
+use Rattle.command_lines.specs.BatchWords.{HasInputs, names_in}
+use Rattle.command_lines.proofs.batch.names_of.Goals as goal
 
 same_inside : {A : Type 0} {x y : A} → Some x ≡ Some y → x ≡ y
 same_inside e = cc
@@ -12,14 +12,6 @@ pub returns-in_default-clause-taken : goal.returns-in_default-clause-taken
 returns-in_default-clause-taken c = λ given.
     let none = c.in_default.ensures ∙ raw_values-rows (found_of c.args.given.now) (codes "FILE") ∙ given.are in
     absurd cc
-
-pub returns-then-inputs_in-gt1-clause-taken : goal.returns-then-inputs_in-gt1-clause-taken
-returns-then-inputs_in-gt1-clause-taken c = λ given.
-    let same : names_in c.in-Some.names.now ≡ given.names = same_inside (c.in-Some.ensures ∙ raw_values-rows (found_of c.args.given.now) (codes "FILE") ∙ given.are) in
-    let once : HasOneInput (names_in c.in-Some.names.now) = rw same given.once in
-    let more = c.if-inputs_in-gt1.true in
-    let is = c.inputs_in.ensures in
-    absurd (omega (arith, once, more, is))
 
 pub returns-clause-given : goal.returns-clause-given
 returns-clause-given c =
