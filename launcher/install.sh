@@ -23,7 +23,7 @@ each_file() {
         [ "$recipe" = "$filter" ] || "$1" "$mode" "$recipe" "share/metaplay/recipes/${recipe##*/}"
     done
     "$1" 755 "$linked/metaplaytopnm" share/metaplay/recipes/metaplaytopnm
-    for page in RECIPES.md FAULTS.md FIXUP.md FORMATS.md PIXELS.md fixup.png info.schema.json; do
+    for page in RECIPES.md FAULTS.md FIXUP.md FORMATS.md PIXELS.md certify.schema.json fixup.png info.schema.json; do
         "$1" 644 "$root/docs/$page" "share/doc/metaplay/$page"
     done
     "$1" 644 "$root/include/metaplay.h" include/metaplay.h

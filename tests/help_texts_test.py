@@ -22,6 +22,7 @@ Commands:
   over     Plays a metafile by its certificate over an image; writes the result
   list     Writes one line for each record of a metafile
   info     Writes one line of JSON about each metafile
+  certify  Writes a certificate for each metafile into a folder
   help     Print this message or the help of the given subcommand(s)
 
 Options:
@@ -35,23 +36,24 @@ Examples:
   metaplay over drawing.wmf drawing.cert page.ppm > printed.ppm
   metaplay list drawing.wmf
   metaplay info drawing.wmf other.emf
+  metaplay certify --out-dir certs 4096 4096 drawing.wmf other.emf
   metaplay --version
 
-FILE may be the word stdin, for standard input. Images are P6 (ppm(5)). The
-report of check, and what info writes about a file, is one line of JSON.
+FILE may be the word stdin, for standard input, but not for certify. Images are
+P6 (ppm(5)). What check, info and certify write about a file is one line of JSON.
 --version, or -V, prints the version and a checksum of the sources.
 
 Exit status:
   0  done
   1  the file, the certificate or the image was rejected, or the surface is
      larger than the bound; or the records that list printed don't end properly;
-     or a file of info doesn't play
+     or a file of info doesn't play, or one of certify is rejected
   2  wrong usage, or help
   3  an input or an output failed, or an input is longer than 268,435,456 bytes
   4  out of memory
 
-The fault is on standard error; check, list and info print it on standard
-output. FAULTS.md explains each fault and what to do about it.
+The fault is on standard error; check, list, info and certify print it on
+standard output. FAULTS.md explains each fault and what to do about it.
 """
 
 # The help of each command, by its name.
@@ -151,6 +153,23 @@ Arguments:
   <FILE>...  The metafiles; one may be the word stdin
 
 Options:
+      --profile <PROFILE>  The rules: core (the default), or print for large surfaces
+      --allow <NAME>       With print: also accept held-deletion or emf-plus
+  -h, --help               Print help
+""",
+    "certify": """\
+Writes a certificate for each metafile into a folder
+
+Usage: metaplay certify [OPTIONS] --out-dir <DIR> <W> <H> <FILE>...
+
+Arguments:
+  <W>        The width of the surface in pixels
+  <H>        The height of the surface in pixels
+  <FILE>...  The metafiles
+
+Options:
+      --out-dir <DIR>      The folder of the certificates
+      --replace            Replace a plain file that has a certificate's name
       --profile <PROFILE>  The rules: core (the default), or print for large surfaces
       --allow <NAME>       With print: also accept held-deletion or emf-plus
   -h, --help               Print help

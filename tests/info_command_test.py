@@ -15,7 +15,7 @@ def unread(name, error="cannot read"):
     """The line of a file that wasn't read."""
     known = json.loads(info("", DOT)[0])
     members = {**dict.fromkeys(sorted(known)), "error": error, "file": name}
-    return json.dumps(members, separators=(",", ":")).encode() + b"\n"
+    return json.dumps(members, separators=(",", ":"), ensure_ascii=False).encode() + b"\n"
 
 
 class InfoCommand(CommandTest):
@@ -65,9 +65,27 @@ class InfoCommand(CommandTest):
             self.assertEqual(self.told(program, names), Answer(3, wanted, CANNOT_READ.err), name)
 
     @for_each_program
+    def test_a_name_that_is_not_text_has_a_line_too(self, program):
+        """No file is opened by it, nor the one whose name it looks like."""
+        self.file("\ufffd\ufffd.wmf", DOT)
+        self.file(b"a\xff\xfe\xc3.wmf".decode(errors="surrogateescape"), DOT)
+        for name, shown in [(b"\xff\xfe.wmf", "\ufffd\ufffd.wmf"), (b"a\xff\xfe\xc3.wmf", "a\ufffd\ufffd\ufffd.wmf"), (b"\xe2\x82", "\ufffd\ufffd")]:
+            wanted = self.lines(["dot.wmf"]) + unread(shown, "the name is not UTF-8") + self.lines(["empty.wmf"])
+            self.assertEqual(self.told(program, ["dot.wmf", name, "empty.wmf"]), Answer(3, wanted, CANNOT_READ.err), name)
+
+    @for_each_program
+    def test_words_that_are_not_text(self, program):
+        """Only names of files may be so."""
+        bad = b"\xff"
+        for words in ([bad], ["show", bad, "4", "4"], ["show", "dot.wmf", bad, "4"], ["info", "--profile", bad, "dot.wmf"], ["info", bad, "--all"]):
+            told = answer(program, words, cwd=self.folder)
+            self.assertEqual(told, Answer(2, b"", b"metaplay: the command line is not UTF-8 text\n"), words)
+        for words in (["certify", "--out-dir", bad, "4", "4", "dot.wmf"], ["check", "dot.wmf", bad], ["list", bad], ["info", "stdin", bad, "stdin"]):
+            told = answer(program, words, cwd=self.folder)
+            self.assertEqual(told, Answer(2, b"", b"metaplay: the command line is not UTF-8 text\n"), words)
+
+    @for_each_program
     def test_names_that_are_no_file_names_of_ours(self, program):
-        told = answer(program, ["info", b"\xff.wmf"], cwd=self.folder)
-        self.assertEqual((told.status, told.out), (2, b""))
         for words, text in [([], b"were not provided"), (["--all"], b"unexpected argument"), (["dot.wmf", "-x"], b"unexpected argument")]:
             told = self.told(program, words)
             self.assertEqual((told.status, told.out), (2, b""), words)

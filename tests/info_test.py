@@ -19,15 +19,16 @@ SEED = 1
 
 # The line of the dot, by hand. Its box is 4 by 4 units, and an inch has 96: the box is 105.83 hundredths of a millimetre wide.
 DOT_LINE = (
-    b'{"dots_per_inch":[96,96],"drawings":1,"emf_frame":null,"error":null,"fault":null,"faults":[],"file":"dot.wmf",'
-    b'"format":"placeable","frame":[4,4],"notes":{},"number":null,"objects":0,"plays":true,"record":null,"records":2,"size":[106,106]}\n'
+    b'{"description":null,"dots_per_inch":[96,96],"drawings":1,"emf_frame":null,"error":null,"fault":null,"faults":[],"file":"dot.wmf",'
+    b'"format":"placeable","frame":[4,4],"notes":{},"number":null,"objects":0,"plays":true,"record":null,"record_name":null,"records":2,'
+    b'"size":[106,106]}\n'
 )
 
 # That of bytes that begin like no metafile.
 NOTHING_LINE = (
-    b'{"dots_per_inch":null,"drawings":null,"emf_frame":null,"error":null,"fault":"NotMetafile",'
-    b'"faults":[{"count":1,"fault":"NotMetafile","number":null}],"file":"","format":null,"frame":null,"notes":{},"number":null,'
-    b'"objects":null,"plays":false,"record":null,"records":null,"size":null}\n'
+    b'{"description":null,"dots_per_inch":null,"drawings":null,"emf_frame":null,"error":null,"fault":"NotMetafile",'
+    b'"faults":[{"count":1,"fault":"NotMetafile","number":null,"record_name":null}],"file":"","format":null,"frame":null,"notes":{},"number":null,'
+    b'"objects":null,"plays":false,"record":null,"record_name":null,"records":null,"size":null}\n'
 )
 
 # Of EMF files with a frame of 3 by 3 pixels: Device, Millimeters, and the dots per inch and the frame's size by them, worked out by hand. 100 pixels

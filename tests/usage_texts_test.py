@@ -39,7 +39,7 @@ SIDES = [*((side, f"{side} is not in 1..=8192") for side in ("0", "8193", "42949
 
 # Wrong command lines that name no command, and the reason.
 NO_COMMAND = [
-    ("", "'metaplay' requires a subcommand but one was not provided\n  [subcommands: show, prepare, check, play, over, list, info, help]"),
+    ("", "'metaplay' requires a subcommand but one was not provided\n  [subcommands: show, prepare, check, play, over, list, info, certify, help]"),
     ("draw a.wmf 4 4", "unrecognized subcommand 'draw'"),
     ("shwo a.wmf 4 4", "unrecognized subcommand 'shwo'\n\n  tip: a similar subcommand exists: 'show'"),
     ("help draw", "unrecognized subcommand 'draw'"),
@@ -66,6 +66,22 @@ WRONG_RULES = [
     ("--allow emf-plus", "--allow needs --profile print"),
     ("--profile core --allow held-deletion", "--allow needs --profile print"),
     ("--profile other --allow other", "--profile needs core or print"),
+]
+
+
+CERTIFY = "metaplay certify [OPTIONS] --out-dir <DIR> <W> <H> <FILE>..."
+
+# Wrong words of `certify`, the reason, and whether its usage is shown.
+WRONG_CERTIFY = [
+    ("4 4 a", "the following required arguments were not provided:\n  --out-dir <DIR>", CERTIFY.replace("[OPTIONS] ", "")),
+    ("--out-dir o 4 4", "the following required arguments were not provided:\n  <FILE>...", CERTIFY.replace("[OPTIONS] ", "")),
+    ("--out-dir", "a value is required for '--out-dir <DIR>' but none was supplied", None),
+    ("--out-dir o --out-dir o 4 4 a", "the argument '--out-dir <DIR>' cannot be used multiple times", CERTIFY),
+    ("--out-dir o --replace --replace 4 4 a", "the argument '--replace' cannot be used multiple times", CERTIFY),
+    ("--out-dir o --profile core --profile core 4 4 a", "the argument '--profile <PROFILE>' cannot be used multiple times", CERTIFY),
+    ("--out-dir o 4 4 stdin", "certify doesn't read standard input", CERTIFY),
+    ("--out-dir o 4 4 a stdin b", "certify doesn't read standard input", CERTIFY),
+    ("--out-dir o --profile other 4 4 stdin", "--profile needs core or print", CERTIFY),
 ]
 
 
@@ -138,6 +154,17 @@ class UsageTexts(unittest.TestCase):
         for options, reason in WRONG_RULES:
             for name in RULED:
                 self.assert_told(program, [*RIGHT[name].split(), *options.split()], reason, USAGE[name])
+
+    @for_each_program
+    def test_certify(self, program):
+        for line, reason, usage in WRONG_CERTIFY:
+            self.assert_told(program, ["certify", *line.split()], reason, usage)
+        for at, side in ((3, "<W>"), (4, "<H>")):
+            for value, why in SIDES:
+                words = ["certify", "--out-dir", "o", "4", "4", "a"]
+                self.assert_told(program, [*words[:at], value, *words[at + 1 :]], f"invalid value '{value}' for '{side}': {why}")
+        for options, reason in WRONG_RULES:
+            self.assert_told(program, ["certify", "--out-dir", "o", "4", "4", "a", *options.split()], reason, CERTIFY)
 
     @for_each_program
     def test_standard_input_twice(self, program):

@@ -7,12 +7,14 @@ from math import floor
 
 from reading.commands import LARGEST_SIDE, Asked, codes
 from reading.fields import Record, text_of
+from reading.listing import EMF_KINDS, WMF_KINDS
 from reading.opening import EMF, PLACEABLE, form_of
 from reading.rules import CORE
 from reference.pixels import Refused
 
 # The names in a line.
 NAMES = [
+    "description",
     "dots_per_inch",
     "drawings",
     "emf_frame",
@@ -27,6 +29,7 @@ NAMES = [
     "objects",
     "plays",
     "record",
+    "record_name",
     "records",
     "size",
 ]
@@ -61,6 +64,19 @@ def paper(file, form, frame):
     if 0 in dots:
         return None, None
     return short(dots), short([side * 2540 / it for side, it in zip(frame, dots, strict=True)])
+
+
+def description(file, form):
+    """The text in the header of an EMF file that names the program and the picture, without the NULs at its end."""
+    if form is not EMF or len(file) < 88:
+        return None
+    size, count, place = (int.from_bytes(file[at : at + 4], "little") for at in (4, 60, 64))
+    if size > len(file) or place < 88 or place + 2 * count > size:
+        return None
+    try:
+        return file[place : place + 2 * count].decode("utf-16-le").rstrip("\0") or None
+    except UnicodeDecodeError:
+        return None
 
 
 class Counts:
@@ -103,11 +119,18 @@ def fault_parts(text):
     return name, int(kind) if kind else None
 
 
-def counted(faults):
+def record_name(form, kind):
+    """The standard's name of a kind of record in a file of a form, or none."""
+    if form is None or kind is None:
+        return None
+    return (EMF_KINDS if form is EMF else WMF_KINDS).names.get(kind)
+
+
+def counted(faults, form):
     """All faults with their counts, in the order of their codes and kinds."""
     parts = [(*fault_parts(text), count) for text, count in faults.items()]
     parts.sort(key=lambda it: (codes()[it[0]], it[1] or 0))
-    return [{"count": count, "fault": name, "number": kind} for name, kind, count in parts]
+    return [{"count": count, "fault": name, "number": kind, "record_name": record_name(form, kind)} for name, kind, count in parts]
 
 
 def line_of(members, rules):
@@ -129,12 +152,12 @@ def sizes(file, opened):
     return {"frame": opened.frame, "dots_per_inch": dots, "size": size, "emf_frame": edges}
 
 
-def playing(asked):
-    """How the run on the largest surface ends."""
+def playing(asked, form):
+    """How the run of a file of a form on the largest surface ends."""
     certifier, refusal = asked.certified((LARGEST_SIDE, LARGEST_SIDE))
     if refusal:
         name, kind = fault_parts(refusal[0])
-        return {"plays": False, "fault": name, "number": kind, "record": refusal[1]}
+        return {"plays": False, "fault": name, "number": kind, "record": refusal[1], "record_name": record_name(form, kind)}
     certificate = asked.prepared((LARGEST_SIDE, LARGEST_SIDE))
     return {"plays": True, "allowed": asked.steps.uses(certifier), "drawings": len(certificate.entries), "objects": certificate[4]}
 
@@ -142,7 +165,7 @@ def playing(asked):
 def info(name, file, rules=CORE):
     """The line of a file, and the status of `info` for it."""
     asked, form = Asked(file, rules), form_of(file)
-    faults, notes, members = Counter(), Counter(), {"file": name}
+    faults, notes, members = Counter(), Counter(), {"file": name, "description": description(file, form)}
     stops = []
     if asked.refusal:
         faults[asked.refusal[0]] += 1
@@ -154,5 +177,5 @@ def info(name, file, rules=CORE):
         counts = Counts(file, form, stops)
         faults, notes = faults + counts.faults, notes + counts.notes
         members |= {"format": form.name, "records": counts.records}
-    members |= {"faults": counted(faults), "notes": dict(sorted(notes.items())), **playing(asked)}
+    members |= {"faults": counted(faults, form), "notes": dict(sorted(notes.items())), **playing(asked, form)}
     return line_of(members, rules), 0 if members["plays"] else 1

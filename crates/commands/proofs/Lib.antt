@@ -1,6 +1,7 @@
 pub mod FailureLemmas
 pub mod FileLineLemmas
 pub mod BatchLineLemmas
+pub mod CertifyLemmas
 pub mod LineLemmas
 pub mod ListLemmas
 pub mod PlayLemmas

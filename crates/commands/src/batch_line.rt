@@ -1,13 +1,14 @@
 //! The line of a task on several files about one of them.
 
-ghost use Rattle.std.specs.Prelude.{◌≡◌, ◌≢◌, IfOk};
+ghost use Rattle.std.specs.Prelude.{◌≢◌, IfOk, option_map};
 ghost use Rattle.std.specs.Io.KnownBytes.{Keeps};
 ghost use Rattle.command_lines.specs.Dimensions.{HasTaskDimensions};
 ghost use Rattle.commands.specs.BatchLines.{IsLineBy, IsLineOf, IsMark, IsWrongNameLine};
 ghost use Rattle.commands.specs.Inputs.{standard_input};
 
-use crate::certify::{Certifying, certify_line};
+use crate::certify::certify_line;
 use crate::certify_report::failed_text;
+use crate::certifying::Certifying;
 use crate::command_end::CommandEnd;
 use crate::file_line::{FileLine, file_line};
 use command_lines::BatchTask;

@@ -7,7 +7,7 @@ ghost use Rattle.preflight_cert.specs.Answer.{IsAnswer, accepted};
 ghost use Rattle.preflight_cert.specs.CertificateOf.{certificate_of};
 ghost use Rattle.preflight_cert.specs.CertificateReading.{read_certificate, rules_in};
 ghost use Rattle.preflight_cert.specs.Preparation.{HasBound, IsForBound};
-ghost use Rattle.commands.specs.Certifying.{IsLineFor, IsPlaceOf};
+ghost use Rattle.commands.specs.Certifying.{IsLineFor, IsPlace};
 
 use crate::certify_report::{LineFiles, certified_text, digest_text};
 use crate::certifying::{Certifying, Place};
@@ -25,18 +25,17 @@ pub(crate) fn kept_line<R: Files + AllocGlobal>(
     rt: &R,
     asked: Certifying<'_>,
     place: Place<'_>,
-    file: &[u8],
 ) -> Result<Option<FileLine>, AllocError>
-    requires place { IsPlaceOf asked.entry file.now place.entry }
+    requires place { IsPlace asked.entry place.entry }
     ensures { IfOk result (λ line. IfSome line (IsLineFor asked.entry place.entry.name.now)) }
 {
     let Ok(certificate) = read_plain(rt, place.path) else {
         return Ok(None);
     };
     let certificate = certificate.as_slice();
-    match check(rt.alloc(), file, certificate) {
+    match check(rt.alloc(), place.file, certificate) {
         Ok(cleared) if is_asked(asked, cleared.certificate) => {
-            let line = certified_line(rt.alloc(), asked, place, file, certificate, &cleared)?;
+            let line = certified_line(rt.alloc(), asked, place, certificate, &cleared)?;
             Ok(Some(line))
         }
         Ok(_) => Ok(None),
@@ -54,18 +53,17 @@ fn is_asked(asked: Certifying<'_>, certificate: Certificate<'_>) -> bool
     is_bound && certificate.rules == asked.rules.in_force()
 }
 
-/// The line about a file with these bytes, and a certificate with these.
+/// The line about a file, and a certificate with these bytes.
 pub(crate) fn certified_line(
     alloc: Global,
     asked: Certifying<'_>,
     place: Place<'_>,
-    file: &[u8],
     certificate: &[u8],
     cleared: &Cleared<'_>,
 ) -> Result<FileLine, AllocError>
-    requires place { IsPlaceOf asked.entry file.now place.entry }
-    requires accepted { IsAnswer file.now certificate.now accepted }
-    requires opened { IsOpenedFrom file.now cleared.now.opened }
+    requires place { IsPlace asked.entry place.entry }
+    requires accepted { IsAnswer place.entry.file.now certificate.now accepted }
+    requires opened { IsOpenedFrom place.entry.file.now cleared.now.opened }
     requires read { read_certificate certificate.now ≡ Ok (certificate_of cleared.now.certificate) }
     requires rules { cleared.now.certificate.rules ≡ rules_in certificate.now }
     requires under { rules_in certificate.now ≡ in_force asked.entry.rules }

@@ -1,9 +1,7 @@
 //! The certificate of one of several files.
 
 ghost use Rattle.std.specs.Prelude.{◌≡◌, ◌≢◌, IfOk};
-ghost use Rattle.preflight_cert.specs.Preparation.{Prepares};
-ghost use Rattle.commands.specs.Certifying.{HasSides, IsLineFor, IsPlaceOf, IsRefusalFor};
-ghost use Rattle.commands.specs.Stored.{Stores};
+ghost use Rattle.commands.specs.Certifying.{HasSides, IsLineFor, IsPlace, IsRefusalFor, StoresIfDone};
 
 use crate::certificate_path::certificate_path;
 use crate::certified::{certified_line, kept_line};
@@ -55,30 +53,30 @@ fn line_of_name<R: Files + AllocGlobal>(
     let place = Place {
         name,
         path: path.as_str(),
+        file: file.as_slice(),
         file_digest: file_digest.as_str(),
     };
-    let line = line_of_bytes(rt, asked, place, file.as_slice())?;
+    let line = line_of_file(rt, asked, place)?;
     Ok(line)
 }
 
-/// The line about a file with these bytes. A certificate that is there and is right is kept.
-fn line_of_bytes<R: Files + AllocGlobal>(
+/// The line about a file that was read. A certificate that is there and is right is kept.
+fn line_of_file<R: Files + AllocGlobal>(
     rt: &R,
     asked: Certifying<'_>,
     place: Place<'_>,
-    file: &[u8],
 ) -> Result<FileLine, AllocError>
     requires sides { HasSides asked.entry }
-    requires place { IsPlaceOf asked.entry file.now place.entry }
+    requires place { IsPlace asked.entry place.entry }
     ensures { IfOk result (IsLineFor asked.entry place.entry.name.now) }
 {
     let store = how_to_store(rt, asked, place);
     if store != Store::New {
-        if let Some(line) = kept_line(rt, asked, place, file)? {
+        if let Some(line) = kept_line(rt, asked, place)? {
             return Ok(line);
         }
     }
-    prepared_line(rt, asked, place, file, store)
+    prepared_line(rt, asked, place, store)
 }
 
 /// Prepares a file's certificate and stores it, and makes the line about it.
@@ -86,23 +84,22 @@ fn prepared_line<R: Files + AllocGlobal>(
     rt: &R,
     asked: Certifying<'_>,
     place: Place<'_>,
-    file: &[u8],
     store: Store,
 ) -> Result<FileLine, AllocError>
     requires sides { HasSides asked.entry }
-    requires place { IsPlaceOf asked.entry file.now place.entry }
+    requires place { IsPlace asked.entry place.entry }
     ensures line { IfOk result (IsLineFor asked.entry place.entry.name.now) }
-    ensures stored { IfOk result (λ it. it.end ≡ CommandEnd.Done → Stores R.File.contents (Prepares asked.entry.rules file.now asked.entry.width asked.entry.height)) }
+    ensures stored { IfOk result (StoresIfDone R.File.contents asked.entry place.entry.file.now) }
 {
     let alloc = rt.alloc();
-    let prepared = match prepare_file(alloc, asked.rules, file, asked.width, asked.height) {
+    let prepared = match prepare_file(alloc, asked.rules, place.file, asked.width, asked.height) {
         Ok(prepared) => prepared,
-        Err(refusal) => return rejected_line(alloc, asked, place, file, refusal),
+        Err(refusal) => return rejected_line(alloc, asked, place, refusal),
     };
     let text = prepared.text.as_slice();
     match store_text(rt, place.path, text, store) {
-        Ok(()) => certified_line(alloc, asked, place, file, text, &prepared.clear()),
-        Err(fault) => unstored_line(alloc, asked, place, file, fault),
+        Ok(()) => certified_line(alloc, asked, place, text, &prepared.clear()),
+        Err(fault) => unstored_line(alloc, asked, place, fault),
     }
 }
 
@@ -111,11 +108,10 @@ fn rejected_line(
     alloc: Global,
     asked: Certifying<'_>,
     place: Place<'_>,
-    file: &[u8],
     refusal: Refusal,
 ) -> Result<FileLine, AllocError>
-    requires place { IsPlaceOf asked.entry file.now place.entry }
-    requires refusal { IsRefusalFor asked.entry file.now refusal }
+    requires place { IsPlace asked.entry place.entry }
+    requires refusal { IsRefusalFor asked.entry place.entry.file.now refusal }
     ensures line { IfOk result (IsLineFor asked.entry place.entry.name.now) }
     ensures end { IfOk result (λ it. it.end ≡ CommandEnd.Rejected) }
 {
@@ -129,7 +125,7 @@ fn rejected_line(
         file_digest: Some(place.file_digest),
     };
     Ok(FileLine {
-        text: rejected_text(alloc, files, file, refusal)?,
+        text: rejected_text(alloc, files, place.file, refusal)?,
         end: CommandEnd::Rejected,
     })
 }
@@ -139,10 +135,9 @@ fn unstored_line(
     alloc: Global,
     asked: Certifying<'_>,
     place: Place<'_>,
-    file: &[u8],
     fault: StoreFault,
 ) -> Result<FileLine, AllocError>
-    requires place { IsPlaceOf asked.entry file.now place.entry }
+    requires place { IsPlace asked.entry place.entry }
     ensures line { IfOk result (IsLineFor asked.entry place.entry.name.now) }
     ensures end { IfOk result (λ it. it.end ≢ CommandEnd.Done) }
 {

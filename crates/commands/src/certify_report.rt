@@ -1,11 +1,9 @@
 //! The lines of `certify`, as JSON.
 
-ghost use Rattle.std.specs.Prelude.{◌≡◌, IfOk, None, OnOk, option_map, string_bytes};
-ghost use Rattle.serde_json.specs.Data.{object};
+ghost use Rattle.std.specs.Prelude.{◌≡◌, IfOk, OnOk, string_bytes};
 ghost use Rattle.serde_json.specs.View.{members_view};
-ghost use Rattle.report_parts.specs.Parts.{report_text};
-ghost use Rattle.commands.specs.CertifyLines.{digest_text, failed_line, named_members};
-ghost use Rattle.commands.specs.CertifyReport.{with_line_files};
+ghost use Rattle.commands.specs.CertifyLines.{digest_text};
+ghost use Rattle.commands.specs.CertifyReport.{PutsFiles, text_of_failure, text_of_members, text_of_refusal};
 ghost use Rattle.commands.specs.ClearedFiles.{members_of};
 
 use crate::check_report::{accepted_members, rejected_members};
@@ -43,7 +41,7 @@ pub(crate) fn certified_text(
     files: LineFiles<'_>,
     cleared: &Cleared<'_>,
 ) -> Result<Vec<u8>, AllocError>
-    ensures { IfOk result (λ text. text.items ≡ report_text (object (with_line_files files.entry None (members_of cleared.now)))) }
+    ensures { IfOk result (λ text. text.items ≡ text_of_members files.entry (members_of cleared.now)) }
 {
     let mut members = accepted_members(alloc, cleared)?;
     put_files(&mut members, alloc, files, None)?;
@@ -57,7 +55,7 @@ pub(crate) fn rejected_text(
     file: &[u8],
     refusal: Refusal,
 ) -> Result<Vec<u8>, AllocError>
-    ensures { IfOk result (λ text. text.items ≡ report_text (object (with_line_files files.entry None (named_members file.now refusal.number refusal.fault)))) }
+    ensures { IfOk result (λ text. text.items ≡ text_of_refusal files.entry file.now refusal) }
 {
     let name = kind_name(FileFormat::of(file), refusal.fault.number());
     let mut members = rejected_members(alloc, refusal)?;
@@ -74,7 +72,7 @@ pub(crate) fn failed_text(
     file_digest: Option<&str>,
     error: &str,
 ) -> Result<Vec<u8>, AllocError>
-    ensures { IfOk result (λ text. text.items ≡ failed_line name.now (option_map (λ it. it.now) path.entry) (option_map (λ it. it.now) file_digest.entry) error.now) }
+    ensures { IfOk result (λ text. text.items ≡ text_of_failure name.now path.entry file_digest.entry error.now) }
 {
     let files = LineFiles {
         name,
@@ -95,11 +93,16 @@ fn put_files(
     files: LineFiles<'_>,
     error: Option<&str>,
 ) -> Result<(), AllocError>
-    ensures { OnOk result (members_view members.new.entries ≡ with_line_files files.entry (option_map (λ it. it.now) error.entry) (members_view members.old.entries)) }
+    ensures { OnOk result (PutsFiles files.entry error.entry members.old.entries members.new.entries) }
 {
     put_text_if(members, alloc, "file_sha256", files.file_digest)?;
     put_text(members, alloc, "file", files.name)?;
     put_text_if(members, alloc, "error", error)?;
-    put_text_if(members, alloc, "certificate_sha256", files.certificate_digest)?;
+    put_text_if(
+        members,
+        alloc,
+        "certificate_sha256",
+        files.certificate_digest,
+    )?;
     put_text_if(members, alloc, "certificate", files.path)
 }

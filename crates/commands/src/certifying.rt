@@ -20,6 +20,8 @@ pub(crate) struct Place<'a> {
     pub(crate) name: &'a str,
     /// The path of its certificate.
     pub(crate) path: &'a str,
+    /// The file's bytes.
+    pub(crate) file: &'a [u8],
     /// The file's SHA-256 in hexadecimal digits.
     pub(crate) file_digest: &'a str,
 }

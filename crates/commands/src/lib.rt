@@ -25,17 +25,22 @@
 //! - `--version` writes the text that the program was given for it, and nothing else (`run_words`, by `VersionWrites`).
 //! - With `--fit`, the surface of `show` and of `play` is the largest one within the given width and height that has the
 //!   proportion of the file's frame (`run_words`, by `asked_width` and `asked_height`).
-//! - `info` writes one line about each file, in order, and ends as the worst of the files does. A line has what is
-//!   known of the file, or says why the file wasn't read (`info_command`).
-//! - If an allocation fails, nothing was written, except whole lines of `info`. For `show`, `prepare` and `list` the
+//! - `info` and `certify` write one line about each file, in order, and end as the worst of the files does
+//!   (`batch_command`). A line of `info` has what is known of the file, or says why the file wasn't read.
+//! - A line of `certify` has the report of `check` for the bytes of the file and of the certificate, which is accepted for
+//!   it under the rules and for the bound that were asked for, and their SHA-256; or the first fault of the file; or the
+//!   reason why there is neither (`batch_command`, by `IsCertifyLine`). A certificate that wasn't there is the one that
+//!   `prepare` makes, stored as `prepare` does (`prepared_line`).
+//! - A name that isn't UTF-8 has such a line too, and no file is opened by it (`batch_command`, by `IsMark`).
+//! - If an allocation fails, nothing was written, except whole lines of `info` and `certify`. For `show`, `prepare` and `list` the
 //!   file opens in that case, and for `play` and `over` the certificate can be read too.
 //! - If an output fails, a prefix of such a text was written. A command ends by `CannotWrite` only if its output
 //!   failed: the output counts its faults, and that count rose.
 //! - A command that is done has flushed its output after the last byte. So have `check` after the report of a
-//!   rejection, `list` after records that break, and `info` unless its output failed or an allocation did. A prepared
+//!   rejection, `list` after records that break, and `info` and `certify` unless the output failed or an allocation did. A prepared
 //!   certificate goes to its own file, and standard output is unchanged (`run_words`, `run`).
 //! - The program's `prepare` is done only after the whole certificate was appended to the file that was opened for it,
-//!   and that file was flushed. A new file was then written to the disk, and then renamed (`NamedOutput::store`, and
+//!   and that file was flushed. A new file was then written to the disk, and then got its name (`NamedOutput::store`, and
 //!   `prepare_to_file`, by `Stores`).
 //! - The number of rows in a band, if the program chooses it, is at most 8, or has at most 2^20 pixels (`band_rows`).
 //! - The whole program ends in the same ways, for some bytes of its inputs and for the sizes and files that the words

@@ -59,7 +59,10 @@ impl From<AllocError> for PlainFault {
 }
 
 /// Reads a plain file. A link is followed.
-pub(crate) fn read_plain<R: Files + AllocGlobal>(rt: &R, name: &str) -> Result<Vec<u8>, PlainFault> {
+pub(crate) fn read_plain<R: Files + AllocGlobal>(
+    rt: &R,
+    name: &str,
+) -> Result<Vec<u8>, PlainFault> {
     let metadata = fs::metadata(rt, name).map_err(InputFault::of)?;
     if !metadata.is_file() {
         return Err(PlainFault::NotPlain);

@@ -26,7 +26,9 @@ pub fn file_info(alloc: Global, rules: Rules, file: &[u8]) -> Result<FileInfo, O
     let totals = count_records(alloc, rules, file)?;
     let playing = playing(alloc, rules, file)?;
     let format = FileFormat::of(file);
-    let description = description(alloc, format, file)?;
+    let Ok(description) = description(alloc, format, file) else {
+        return Err(OutOfMemory);
+    };
     Ok(FileInfo {
         rules,
         format,

@@ -19,7 +19,7 @@ pub(crate) fn words(alloc: Global, words: &[&str]) -> Result<Vec<String>, AllocE
 fn command(alloc: Global, words: &[String]) -> Option<CommandLine<'_>> {
     match line(alloc, words) {
         Ok(Asked::Command(line)) => Some(line),
-        Ok(Asked::Info { .. }) | Ok(Asked::Version) => None,
+        Ok(Asked::Batch { .. }) | Ok(Asked::Version) => None,
         Err(_) => None,
     }
 }

@@ -1,4 +1,5 @@
 pub mod Parts
+pub mod Putting
 pub mod Profile
 pub mod CoreReportLaws
 pub mod Whole

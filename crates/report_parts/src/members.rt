@@ -1,9 +1,10 @@
 //! Members of an object.
 
-ghost use Rattle.std.specs.Prelude.{◌≡◌, IfOk, OnOk, option_map};
-ghost use Rattle.serde_json.specs.Data.{put as with_member, string};
-ghost use Rattle.serde_json.specs.View.{members_view, view};
+ghost use Rattle.std.specs.Prelude.{◌≡◌, IfOk, OnOk};
+ghost use Rattle.serde_json.specs.Data.{string};
+ghost use Rattle.serde_json.specs.View.{view};
 ghost use Rattle.report_parts.specs.Parts.{pair, text_if, whole, whole_if};
+ghost use Rattle.report_parts.specs.Putting.{Puts, text_in};
 
 use serde_json::{Map, Value, json, put};
 use std::alloc::{AllocError, Global};
@@ -15,7 +16,7 @@ pub fn put_number(
     name: &str,
     number: u64,
 ) -> Result<(), AllocError>
-    ensures { OnOk result (members_view members.new.entries ≡ with_member name.now (whole number) (members_view members.old.entries)) }
+    ensures { OnOk result (Puts name.now (whole number) members.old.entries members.new.entries) }
 {
     put(members, alloc, name, Value::from(number))
 }
@@ -27,7 +28,7 @@ pub fn put_text(
     name: &str,
     text: &str,
 ) -> Result<(), AllocError>
-    ensures { OnOk result (members_view members.new.entries ≡ with_member name.now (string text.now) (members_view members.old.entries)) }
+    ensures { OnOk result (Puts name.now (string text.now) members.old.entries members.new.entries) }
 {
     let value = Value::try_from_str(alloc, text)?;
     put(members, alloc, name, value)
@@ -40,7 +41,7 @@ pub fn put_number_if(
     name: &str,
     number: Option<u32>,
 ) -> Result<(), AllocError>
-    ensures { OnOk result (members_view members.new.entries ≡ with_member name.now (whole_if number) (members_view members.old.entries)) }
+    ensures { OnOk result (Puts name.now (whole_if number) members.old.entries members.new.entries) }
 {
     match number {
         Some(number) => put_number(members, alloc, name, u64::from(number)),
@@ -55,7 +56,7 @@ pub fn put_text_if(
     name: &str,
     text: Option<&str>,
 ) -> Result<(), AllocError>
-    ensures { OnOk result (members_view members.new.entries ≡ with_member name.now (text_if (option_map (λ it. it.now) text.entry)) (members_view members.old.entries)) }
+    ensures { OnOk result (Puts name.now (text_if (text_in text.entry)) members.old.entries members.new.entries) }
 {
     match text {
         Some(text) => put_text(members, alloc, name, text),
