@@ -11,11 +11,15 @@ use Rattle.command_lines.specs.BatchWords.{HasInputs, HasNoInput}
 abbrev is_input : Text → Bool
 is_input name = bytes_eq name (codes "stdin")
 
+-- it isn't
+abbrev IsNoInput : Text → Type 0
+IsNoInput name = name ≡ codes "stdin" → ⊥
+
 -- how many inputs one name is
 abbrev inputs_of : Text → ℕ
 inputs_of name = cond (is_input name) 1 0
 
-no_input : (name : Text) → (name ≡ codes "stdin" → ⊥) → is_input name ≡ false
+no_input : (name : Text) → IsNoInput name → is_input name ≡ false
 no_input name other = go (is_input name) refl
   where
     go : (same : Bool) → is_input name ≡ same → is_input name ≡ false
@@ -25,7 +29,7 @@ no_input name other = go (is_input name) refl
 pub none_counted : (names : List Text) → HasNoInput names → HasInputs 0 names
 none_counted [] none = omega arith
 none_counted (name ∷ names) none =
-    let first : inputs_of name ≡ 0 = ap (λ (b : Bool). cond b 1 0) (no_input name (All-head _ name names none)) in
-    let others : count_by is_input names ≤ 0 = none_counted names (All-tail _ name names none) in
+    let first : inputs_of name ≡ 0 = ap (λ (b : Bool). cond b 1 0) (no_input name (All-head IsNoInput name names none)) in
+    let others : count_by is_input names ≤ 0 = none_counted names (All-tail IsNoInput name names none) in
     let both : count_by is_input (name ∷ names) ≡ inputs_of name + count_by is_input names = sum_by-cons _ name names in
     omega (arith, first, others, both)
