@@ -11,7 +11,7 @@ use Rattle.clap.specs.Words.{subcommand_of, takes}
 use Rattle.clap.proofs.OnLiterals.{clap_on_literals}
 use Rattle.command_lines.specs.CommandLine.{GivesAll, IsPlainWord, info_app, metaplay_app}
 use Rattle.command_lines.specs.BatchWords.{AreInfoWords, AsksRightInfo}
-use Rattle.command_lines.specs.RightWords.{AreOfKinds, ArgumentKind, exactly, name, rule_options}
+use Rattle.command_lines.specs.RightWords.{AreOfKinds, ArgumentKind, exactly, rule_options}
 use Rattle.command_lines.specs.RuleWords.{AreRightRules}
 use Rattle.command_lines.proofs.BatchLemmas.{are_exactly, name_kinds, names_pass, names_taken, top, top_names, words_pass, words_stay}
 use Rattle.command_lines.proofs.KindLemmas.{end_passes, kinds_end, kinds_pass, kinds_walked, rows_kinds}

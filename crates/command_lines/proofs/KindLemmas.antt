@@ -136,3 +136,30 @@ horizontal_kinds s kinds words = end_passes s (kinds_pass s kinds (walk_from not
 pub horizontal_is : (s : Shape) (kinds : List ArgumentKind) (words : List Text) → AreOfKinds kinds words → level_passes s [] nothing_held words false ≡ horizontal_kinds s kinds words
 horizontal_is s kinds words are =
     ap₂ (λ (passes : Bool) (w : Walk). end_passes s passes w.held) (passes_kinds s kinds (walk_from nothing_held) words are) (walked_kinds s.rules kinds (walk_from nothing_held) words are)
+
+and_last : (a b c : Bool) → (a && (b && c)) ≡ ((a && b) && c)
+and_last true b c = refl
+and_last false b c = refl
+
+-- words of some kinds, and then words of others
+pub are_on : (first last : List ArgumentKind) (front back : List Text) → AreOfKinds first front → AreOfKinds last back → AreOfKinds (first ++ last) (front ++ back)
+are_on [] last [] back are others = others
+are_on [] last (word ∷ front) back are others = absurd are
+are_on (kind ∷ first) last [] back are others = absurd are
+are_on (kind ∷ first) last (word ∷ front) back are others = (are.0, are_on first last front back are.1 others)
+
+pub walked_on : (c : List Rule) (first last : List ArgumentKind) (w : Walk) (front back : List Text) → AreOfKinds first front
+    → kinds_walked c (first ++ last) w (front ++ back) ≡ kinds_walked c last (kinds_walked c first w front) back
+walked_on c [] last w [] back are = refl
+walked_on c [] last w (word ∷ front) back are = absurd are
+walked_on c (kind ∷ first) last w [] back are = absurd are
+walked_on c (kind ∷ first) last w (word ∷ front) back are = walked_on c first last (kind_walked c kind w word) front back are.1
+
+pub passes_on : (s : Shape) (first last : List ArgumentKind) (w : Walk) (front back : List Text) → AreOfKinds first front
+    → kinds_pass s (first ++ last) w (front ++ back) ≡ (kinds_pass s first w front && kinds_pass s last (kinds_walked s.rules first w front) back)
+passes_on s [] last w [] back are = refl
+passes_on s [] last w (word ∷ front) back are = absurd are
+passes_on s (kind ∷ first) last w [] back are = absurd are
+passes_on s (kind ∷ first) last w (word ∷ front) back are =
+    ap (λ (b : Bool). kind_passes s kind w word && b) (passes_on s first last (kind_walked s.rules kind w word) front back are.1)
+    ∙ and_last (kind_passes s kind w word) (kinds_pass s first (kind_walked s.rules kind w word) front) _

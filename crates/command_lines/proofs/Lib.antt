@@ -5,8 +5,10 @@ pub mod CertifyLemmas
 pub mod CommandLemmas
 pub mod ConflictLemmas
 pub mod InfoLemmas
+pub mod InputLemmas
 pub mod KindLemmas
 pub mod OpenLemmas
+pub mod OptionLemmas
 pub mod ProfileLemmas
 pub mod RowLemmas
 pub mod RuledLemmas

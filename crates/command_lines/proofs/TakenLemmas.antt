@@ -109,16 +109,16 @@ same_inside : {A : Type 0} {x y : A} → Some x ≡ Some y → x ≡ y
 same_inside e = cc
 
 -- right words name no command on several files
-no_batch_named : (words : List Text) → AreRightWords words → (name : Text) (given : List Row) → subcommand_of metaplay_app words ≡ Some (name, given) → is_batch name ≡ true → ⊥
-no_batch_named words right name given met is =
+no_batch_named : (words : List Text) → AreRightWords words → (batch : Text) (given : List Row) → subcommand_of metaplay_app words ≡ Some (batch, given) → is_batch batch ≡ true → ⊥
+no_batch_named words right batch given met is =
     let taken = is_taken words right in
     let command = taken.right right.program in
-    let at : subcommand_of metaplay_app (right.program ∷ right.command ∷ right.arguments) ≡ Some (name, given) = subst (λ (l : List Text). subcommand_of metaplay_app l ≡ Some (name, given)) right.are met in
-    let named : command.name ≡ name = ap (λ (both : Text × List Row). both.0) (same_inside (sym command.command ∙ at)) in
+    let at : subcommand_of metaplay_app (right.program ∷ right.command ∷ right.arguments) ≡ Some (batch, given) = subst (λ (l : List Text). subcommand_of metaplay_app l ≡ Some (batch, given)) right.are met in
+    let named : command.name ≡ batch = ap (λ (both : Text × List Row). both.0) (same_inside (sym command.command ∙ at)) in
     let usage = right.right in
     let of_one : is_of_one usage.1 ≡ true = subst (λ (u : Text × List ArgumentKind). is_of_one u ≡ true) usage.3 (AllPass-from_list_all is_of_one usages all_of_one usage.0 usage.1 usage.2) in
-    let batch : is_batch usage.1.0 ≡ true = subst (λ (n : Text). is_batch n ≡ true) (sym (usage.4.0 ∙ (sym (taken.named right.program) ∙ named))) is in
-    let bad : false ≡ true = sym (ap not batch) ∙ of_one in cc
+    let batched : is_batch usage.1.0 ≡ true = subst (λ (n : Text). is_batch n ≡ true) (sym (usage.4.0 ∙ (sym (taken.named right.program) ∙ named))) is in
+    let bad : false ≡ true = sym (ap not batched) ∙ of_one in cc
 
 pub no_batch : (words : List Text) → AreRightWords words → IsNoBatch (subcommand_of metaplay_app words)
 no_batch words right = (λ given met. no_batch_named words right (codes "info") given met refl, λ given met. no_batch_named words right (codes "certify") given met refl)

@@ -1,5 +1,5 @@
 -- Command lines that ask for something about each of several files.
-use Rattle.std.specs.Prelude.{◌≡◌, ◌≤◌, ◌⊎◌, ◌++◌, ℕ, List, [], ◌∷◌, true, Option, Some, codes, count_by, map}
+use Rattle.std.specs.Prelude.{◌≡◌, ◌≤◌, ◌⊎◌, ◌++◌, ℕ, List, ◌∷◌, true, Option, Some, codes, count_by, map}
 use Rattle.std.specs.Borrow.{Bor}
 use Rattle.std.specs.List.{All, Any}
 use Rattle.std.specs.Str.{bytes_eq}

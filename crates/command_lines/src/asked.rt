@@ -23,7 +23,9 @@ pub enum Asked<'a> {
 #[derive(Clone, Copy, Debug, PartialEq, Eq)]
 pub enum BatchTask<'a> {
     /// A line about each file, by these rules. At most one of the names is the word `stdin`.
-    Info { rules: Rules },
+    Info {
+        rules: Rules,
+    },
     /// A certificate for each file, for surfaces of at most this size, in this folder. With `replace` it takes the place
     /// of a plain file there. No name is the word `stdin`.
     Certify {

@@ -16,7 +16,10 @@ use clap::ArgMatches;
 use std::alloc::{AllocError, Global};
 
 /// The names and the rules of `info`, if they are right.
-pub(crate) fn asked_info<'a>(alloc: Global, given: &ArgMatches<'a>) -> Result<Option<Asked<'a>>, AllocError>
+pub(crate) fn asked_info<'a>(
+    alloc: Global,
+    given: &ArgMatches<'a>,
+) -> Result<Option<Asked<'a>>, AllocError>
     ensures valid { IfOk result (λ asked. IfSome asked IsValid) }
     ensures gives { IfOk result (λ asked. IfSome asked (HoldsNames (codes "info") (rows_of (found_of given.now)))) }
     ensures taken { IfOk result (λ asked. GivesNames (rows_of (found_of given.now)) HasOneInput → AreRightRules (rows_of (found_of given.now)) → IsSome asked) }
@@ -32,7 +35,10 @@ pub(crate) fn asked_info<'a>(alloc: Global, given: &ArgMatches<'a>) -> Result<Op
 }
 
 /// The names and the other arguments of `certify`, if they are right.
-pub(crate) fn asked_certify<'a>(alloc: Global, given: &ArgMatches<'a>) -> Result<Option<Asked<'a>>, AllocError>
+pub(crate) fn asked_certify<'a>(
+    alloc: Global,
+    given: &ArgMatches<'a>,
+) -> Result<Option<Asked<'a>>, AllocError>
     ensures valid { IfOk result (λ asked. IfSome asked IsValid) }
     ensures gives { IfOk result (λ asked. IfSome asked (HoldsNames (codes "certify") (rows_of (found_of given.now)))) }
     ensures taken { IfOk result (λ asked. GivesNames (rows_of (found_of given.now)) HasNoInput → AreRightArguments certify_app.top (rows_of (found_of given.now)) → IsSome asked) }
@@ -72,7 +78,11 @@ fn certify_of<'a>(given: &ArgMatches<'a>) -> Option<BatchTask<'a>>
 }
 
 /// The files' names, if at most so many of them are the word for standard input.
-fn names_of<'a>(alloc: Global, given: &ArgMatches<'a>, most: usize) -> Result<Option<Vec<&'a str>>, AllocError>
+fn names_of<'a>(
+    alloc: Global,
+    given: &ArgMatches<'a>,
+    most: usize,
+) -> Result<Option<Vec<&'a str>>, AllocError>
     ensures given { IfOk result (λ given_names. IfSome given_names (λ names. all_of (codes "FILE") (rows_of (found_of given.now)) ≡ Some (names_in names.items))) }
     ensures inputs { IfOk result (λ given_names. IfSome given_names (λ names. HasInputs most (names_in names.items))) }
     ensures taken { IfOk result (λ given_names. GivesNames (rows_of (found_of given.now)) (HasInputs most) → IsSome given_names) }

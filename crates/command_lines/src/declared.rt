@@ -172,7 +172,9 @@ fn info<'a>(alloc: Global) -> Result<Command<'a>, AllocError>
 fn certify<'a>(alloc: Global) -> Result<Command<'a>, AllocError>
     ensures { IfOk result (IsLocalApp certify_app) }
 {
-    let command = Command::new(alloc, "certify").about("Writes a certificate for each metafile into a folder");
+    let command = Command::new(alloc, "certify").about(
+        "Writes a certificate for each metafile into a folder",
+    );
     let command = with_dimensions(alloc, command)?;
     let command = command
         .arg(files(alloc, "The metafiles"))?

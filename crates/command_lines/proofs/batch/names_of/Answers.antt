@@ -13,6 +13,14 @@ returns-in_default-clause-taken c = λ given.
     let none = c.in_default.ensures ∙ raw_values-rows (found_of c.args.given.now) (codes "FILE") ∙ given.are in
     absurd cc
 
+pub returns-then-inputs_in-most-clause-taken : goal.returns-then-inputs_in-most-clause-taken
+returns-then-inputs_in-most-clause-taken c = λ given.
+    let same : names_in c.in-Some.names.now ≡ given.names = same_inside (c.in-Some.ensures ∙ raw_values-rows (found_of c.args.given.now) (codes "FILE") ∙ given.are) in
+    let few : HasInputs c.args.most (names_in c.in-Some.names.now) = rw same given.fact in
+    let more = c.if-inputs_in-most.true in
+    let is = c.inputs_in.ensures in
+    absurd (omega (arith, few, more, is))
+
 pub returns-clause-given : goal.returns-clause-given
 returns-clause-given c =
     sym (raw_values-rows (found_of c.args.given.now) (codes "FILE")) ∙ sym c.in-Some.ensures

@@ -1,5 +1,5 @@
 -- What the words ask for follows from what clap finds in them.
-use Rattle.std.proofs.Common.{◌≡◌, ◌∙◌, Bool, List, [], Option, Result, Ok, Err, IfErr, IfSome, IsSome, IsErrAnd, ap, codes, false, inl, inr, subst, sym, true}
+use Rattle.std.proofs.Common.{◌≡◌, ◌∙◌, Bool, List, [], Option, Result, Ok, Err, IfErr, IfSome, IsSome, IsErrAnd, ap, false, inl, inr, subst, sym, true}
 use Rattle.clap.specs.Faults.{fault_of, is_simple_and_free}
 use Rattle.clap.specs.Words.{App, HasKind, IsAmong, Kinds, Row, Text, app_of, is_simple, kind_of, subcommand_of, subcommand_rows_of, takes}
 use Rattle.clap.specs.declared.error.Error.{Error}
@@ -59,9 +59,9 @@ returns-clause-accepted c = λ accepted.
     let found : false ≡ true = elim accepted.right [
       | inl command ↦ subst IsSome c.in-None.is (c.in_ok-asked.ensures.command_taken (subst IsRightCommand (sym met) command.0) (subst IsNoBatch (sym met) command.1))
       | inr batch ↦ elim batch [
-          | inl info ↦ subst IsSome c.in-None.is (c.in_ok-asked.ensures.info_taken (subst AsksRightInfo (sym met) info))
-          | inr certify ↦ subst IsSome c.in-None.is (c.in_ok-asked.ensures.certify_taken (subst AsksRightCertify (sym met) certify))
-        ]
+        | inl info ↦ subst IsSome c.in-None.is (c.in_ok-asked.ensures.info_taken (subst AsksRightInfo (sym met) info))
+        | inr certify ↦ subst IsSome c.in-None.is (c.in_ok-asked.ensures.certify_taken (subst AsksRightCertify (sym met) certify))
+      ]
     ] in
     cc
 

@@ -2,15 +2,16 @@
 use Rattle.std.proofs.Common.{◌≡◌, ◌∙◌, ap, ap₂, codes, false}
 use Rattle.std.proofs.lemmas.Result.{IfOk-weaker}
 use Rattle.clap.specs.Simple.{app_of_fields}
-use Rattle.clap.specs.Words.{app_of, fields_of, new_app, with_rule}
+use Rattle.clap.specs.Words.{app_of, new_app, with_rule}
+use Rattle.clap.specs.declared.builder.command.Command.TheViews.{out-Command}
 use Rattle.command_lines.specs.CommandLine.{with_dimensions, with_rules}
 use Rattle.command_lines.proofs.AppLemmas.{both_local}
 use Rattle.command_lines.proofs.declared.certify.Goals as goal
 
 pub returns : goal.returns
 returns c =
-    let named : app_of c.about.result ≡ new_app (codes "certify") = ap app_of_fields c.about.ensures ∙ c.new.ensures.app in
-    let none : (fields_of c.about.result).has_globals ≡ false = ap (λ fields. fields.has_globals) c.about.ensures ∙ c.new.ensures.local in
+    let named : app_of c.about-command.result ≡ new_app (codes "certify") = ap app_of_fields c.about-command.ensures ∙ c.new.ensures.app in
+    let none : (out-Command c.about-command.result).has_globals ≡ false = ap (λ fields. fields.has_globals) c.about-command.ensures ∙ c.new.ensures.local in
     let sized = c.in_ok-command.ensures in
     let one = c.in_ok-arg.ensures in
     let two = c.in_ok-arg-2.ensures in
