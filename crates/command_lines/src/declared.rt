@@ -30,21 +30,20 @@ const GUIDE: &str = "Examples:
   metaplay --version
 
 FILE may be the word stdin, for standard input, but not for certify. Images are
-P6 (ppm(5)). The report of check, and what info writes about a file, is one line
-of JSON.
+P6 (ppm(5)). What check, info and certify write about a file is one line of JSON.
 --version, or -V, prints the version and a checksum of the sources.
 
 Exit status:
   0  done
   1  the file, the certificate or the image was rejected, or the surface is
      larger than the bound; or the records that list printed don't end properly;
-     or a file of info doesn't play
+     or a file of info doesn't play, or one of certify is rejected
   2  wrong usage, or help
   3  an input or an output failed, or an input is longer than 268,435,456 bytes
   4  out of memory
 
-The fault is on standard error; check, list and info print it on standard
-output. FAULTS.md explains each fault and what to do about it.";
+The fault is on standard error; check, list, info and certify print it on
+standard output. FAULTS.md explains each fault and what to do about it.";
 
 /// The program's command line.
 pub(crate) fn metaplay<'a>(alloc: Global) -> Result<Command<'a>, AllocError>
