@@ -1,5 +1,5 @@
 -- The rows of the parsed command are the arguments that it was given.
-use Rattle.std.proofs.Common.{◌≡◌, ◌∙◌, ap, codes, sym, subst, refl, Bool, List, [], ◌∷◌, false, true, Option, Some, None, IfSome, find, option_map, Box}
+use Rattle.std.proofs.Common.{◌≡◌, ◌∙◌, ap, sym, subst, refl, Bool, List, [], ◌∷◌, false, true, Option, Some, None, IfSome, find, option_map, Box}
 use Rattle.std.proofs.lemmas.Slice.Eq.{bytes_eq-Decides}
 use Rattle.std.specs.Box.{box_value}
 use Rattle.std.specs.Str.{bytes_eq}
@@ -8,9 +8,8 @@ use Rattle.clap.specs.Simple.{subcommand_rows}
 use Rattle.clap.specs.declared.parser.matches.SubCommand.{SubCommand}
 use Rattle.clap.specs.declared.parser.matches.ArgMatches.TheViews.{out-SubCommand}
 use Rattle.command_lines.specs.Asked.{HoldsNames, IsFound}
-use Rattle.command_lines.specs.BatchWords.{AsksRightCertify, AsksRightInfo, GivesNames, HasNoInput, HasOneInput, IsOther}
-use Rattle.command_lines.specs.CommandLine.{AreRightArguments, HoldsWords, IsAskedBy, IsRightCommand, certify_app, command_name, metaplay_app}
-use Rattle.command_lines.specs.RuleWords.{AreRightRules}
+use Rattle.command_lines.specs.BatchWords.{AsksRight, IsOther}
+use Rattle.command_lines.specs.CommandLine.{AreRightArguments, HoldsWords, IsAskedBy, IsRightCommand, command_name, metaplay_app}
 use Rattle.command_lines.specs.declared.asked.Asked.{Asked}
 use Rattle.command_lines.specs.declared.asked.Asked.TheVariants.{Batch, Command, Version}
 use Rattle.command_lines.specs.declared.asked.CommandLine.{CommandLine}
@@ -83,25 +82,12 @@ module _ {Z : Type 0} where
   some_batch_found met command given None named rows holds = tt
   some_batch_found met command given (Some asked) named rows holds = batch_found met command given asked named rows holds
 
-  -- the rows of a command with this name are the ones that were found
-  same_given : (met : Option (Box SubCommand Z)) (command : Text) (given other : List Row) → name_met met ≡ Some command → rows_met met ≡ Some given
-      → subcommand_rows met ≡ Some (command, other) → given ≡ other
-  same_given met command given other named rows is =
-      ap (λ (p : Text × List Row). p.1) (same_inside (sym (both_met met command given named rows) ∙ is))
-
-  -- `info` was given names as they should be, and rules
-  pub info_given : (met : Option (Box SubCommand Z)) (given : List Row) → name_met met ≡ Some (codes "info") → rows_met met ≡ Some given → AsksRightInfo (subcommand_rows met)
-      → GivesNames given HasOneInput × AreRightRules given
-  info_given met given named rows right =
-      subst (λ (rows : List Row). GivesNames rows HasOneInput × AreRightRules rows) (sym (same_given met (codes "info") given right.given named rows right.command))
-      (right.names, right.rules)
-
-  -- `certify` was given names as they should be, and other arguments
-  pub certify_given : (met : Option (Box SubCommand Z)) (given : List Row) → name_met met ≡ Some (codes "certify") → rows_met met ≡ Some given
-      → AsksRightCertify (subcommand_rows met) → GivesNames given HasNoInput × AreRightArguments certify_app.top given
-  certify_given met given named rows right =
-      subst (λ (rows : List Row). GivesNames rows HasNoInput × AreRightArguments certify_app.top rows)
-      (sym (same_given met (codes "certify") given right.given named rows right.command)) (right.names, right.arguments)
+  -- what holds for the rows of a command with this name holds for those that were found
+  pub right_given : (met : Option (Box SubCommand Z)) (command : Text) (holds : List Row → Type 0) (given : List Row) → name_met met ≡ Some command → rows_met met ≡ Some given
+      → AsksRight command holds (subcommand_rows met) → holds given
+  right_given met command holds given named rows right =
+      let both : (command, given) ≡ (command, right.given) = same_inside (sym (both_met met command given named rows) ∙ right.is) in
+      subst holds (sym (ap (λ (p : Text × List Row). p.1) both)) right.right
 
   -- the parsed command has the right name
   name_right : (met : Option (Box SubCommand Z)) (right : IsRightCommand (subcommand_rows met)) → name_met met ≡ Some right.name

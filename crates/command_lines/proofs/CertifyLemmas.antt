@@ -132,14 +132,16 @@ certify_words_asked words right =
     let taken = right_options words right in
     subst (λ (l : List Text). AsksRightCertify (subcommand_of metaplay_app l)) (sym (first_apart words right)) (record {
       given = rows_given right.folder right.options right.wide right.high right.name right.names;
-      command = certify_given right.folder right.options right.wide right.high right.name right.names taken right.sides.0 right.sides.1 right.plain right.program;
-      names = record {
-        names = right.name ∷ right.names;
-        are = taken.named right.folder right.wide right.high right.name right.names;
-        fact = right.none;
-      };
-      arguments = record {
-        all = taken.gives right.folder right.wide right.high right.name right.names right.sides.0 right.sides.1;
-        rules = taken.right right.folder right.wide right.high right.name right.names;
+      is = certify_given right.folder right.options right.wide right.high right.name right.names taken right.sides.0 right.sides.1 right.plain right.program;
+      right = record {
+        names = record {
+          names = right.name ∷ right.names;
+          are = taken.named right.folder right.wide right.high right.name right.names;
+          fact = right.none;
+        };
+        arguments = record {
+          all = taken.gives right.folder right.wide right.high right.name right.names right.sides.0 right.sides.1;
+          rules = taken.right right.folder right.wide right.high right.name right.names;
+        };
       };
     })

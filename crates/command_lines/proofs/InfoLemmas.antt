@@ -183,9 +183,11 @@ info_words_asked words right =
     let taken = right_options words right in
     subst (λ (l : List Text). AsksRightInfo (subcommand_of metaplay_app l)) (sym right.are) (record {
       given = rows_given names options;
-      command = info_met right.program (right.name ∷ (right.names ++ options))
+      is = info_met right.program (right.name ∷ (right.names ++ options))
           ∙ ap (λ (rows : List Row). Some (codes "info", rows)) (rows_kinds info_shape.rules (ended_kinds names options) (names ++ options) (are_names names options right.plain)
           ∙ ap (finished info_shape.rules) (ended_names right.name right.names options));
-      names = record { names = names; are = taken.named right.name right.names; fact = right.once };
-      rules = taken.right right.name right.names;
+      right = record {
+        names = record { names = names; are = taken.named right.name right.names; fact = right.once };
+        rules = taken.right right.name right.names;
+      };
     })

@@ -1,7 +1,7 @@
 -- What a command line asks for.
-use Rattle.std.specs.Prelude.{◌≡◌, List, [], ◌∷◌, Option, Some, codes}
-use Rattle.clap.specs.Words.{Row, Text, all_of}
-use Rattle.command_lines.specs.BatchWords.{AsksBatch, AsksBatchByWords, HasRightInputs, HoldsBatch, batch_name, names_in}
+use Rattle.std.specs.Prelude.{◌≡◌, List, [], ◌∷◌, Option, codes}
+use Rattle.clap.specs.Words.{Row, Text}
+use Rattle.command_lines.specs.BatchWords.{AsksBatch, AsksBatchByWords, GivesFiles, HasRightInputs, HoldsBatch, batch_name, names_in}
 use Rattle.command_lines.specs.CommandLine.{HasWords, IsAskedBy, IsAskedByWords, IsPlainWord}
 use Rattle.command_lines.specs.Dimensions.{HasDimensions, HasTaskDimensions}
 use Rattle.command_lines.specs.VersionWords.{AreVersionWords}
@@ -19,7 +19,7 @@ IsFound met Version = ⊥
 abbrev pub HoldsNames : Text → List Row → Asked → Type 0
 HoldsNames command given (Command line) = ⊥
 HoldsNames command given (Batch names task) =
-    (batch_name task ≡ command) × (all_of (codes "FILE") given ≡ Some (names_in names.items)) × HoldsBatch given task
+    (batch_name task ≡ command) × GivesFiles given (names_in names.items) × HoldsBatch given task
 HoldsNames command given Version = ⊥
 
 -- the words, the program's name first, ask for this

@@ -24,11 +24,15 @@ HoldsBatch given (Certify rules width height folder replace) =
     GivesRules given rules × GivesDimensions given width height × GivesName given (codes "DIR") folder.now
     × GivesFlag given (codes "replace") replace
 
+-- FILE was given as these names, in order
+abbrev pub GivesFiles : List Row → List Text → Type 0
+GivesFiles given names = all_of (codes "FILE") given ≡ Some names
+
 -- the command is that of the task, and it was given these names, in order, and what the task has
 pub record AsksBatch (met : Option (Text × List Row)) (names : List Text) (task : BatchTask) : Type 0 where
   pub given : List Row
   pub command : met ≡ Some (batch_name task, given)
-  pub are : all_of (codes "FILE") given ≡ Some names
+  pub are : GivesFiles given names
   pub gives : HoldsBatch given task
 
 -- the words ask for this task on the files with these names
@@ -55,22 +59,32 @@ HasRightInputs (Certify rules width height folder replace) names = HasNoInput na
 -- names were given, and this holds for them
 pub record GivesNames (given : List Row) (holds : List Text → Type 0) : Type 0 where
   pub names : List Text
-  pub are : all_of (codes "FILE") given ≡ Some names
+  pub are : GivesFiles given names
   pub fact : holds names
 
--- the command is `info`, with names of which at most one is the word for standard input, and rules as they should be
-pub record AsksRightInfo (met : Option (Text × List Row)) : Type 0 where
-  pub given : List Row
-  pub command : met ≡ Some (codes "info", given)
+-- `info` was given names of which at most one is the word for standard input, and rules as they should be
+pub record IsRightInfo (given : List Row) : Type 0 where
   pub names : GivesNames given HasOneInput
   pub rules : AreRightRules given
 
--- the command is `certify`, with arguments as they should be, and no name is the word for standard input
-pub record AsksRightCertify (met : Option (Text × List Row)) : Type 0 where
-  pub given : List Row
-  pub command : met ≡ Some (codes "certify", given)
+-- `certify` was given arguments as they should be, and no name that is the word for standard input
+pub record IsRightCertify (given : List Row) : Type 0 where
   pub names : GivesNames given HasNoInput
   pub arguments : AreRightArguments certify_app.top given
+
+-- the command has this name, and this holds for what it was given
+pub record AsksRight (command : Text) (holds : List Row → Type 0) (met : Option (Text × List Row)) : Type 0 where
+  pub given : List Row
+  pub is : met ≡ Some (command, given)
+  pub right : holds given
+
+-- the command is `info`, and what it was given is right
+abbrev pub AsksRightInfo : Option (Text × List Row) → Type 0
+AsksRightInfo met = AsksRight (codes "info") IsRightInfo met
+
+-- the command is `certify`, and what it was given is right
+abbrev pub AsksRightCertify : Option (Text × List Row) → Type 0
+AsksRightCertify met = AsksRight (codes "certify") IsRightCertify met
 
 -- no command with this name was given
 abbrev pub IsOther : Text → Option (Text × List Row) → Type 0

@@ -26,8 +26,8 @@ pub enum BatchTask<'a> {
     Info {
         rules: Rules,
     },
-    /// A certificate for each file, for surfaces of at most this size, in this folder. With `replace` it takes the place
-    /// of a plain file there. No name is the word `stdin`.
+    /// A certificate for each file, for surfaces of at most this size, in this folder. With `replace` it takes the
+    /// place of a plain file there. No name is the word `stdin`.
     Certify {
         rules: Rules,
         width: u32,

@@ -1,13 +1,12 @@
 //! What the commands on several files are asked for.
 
-ghost use Rattle.std.specs.Prelude.{◌≡◌, ◌≤◌, IfOk, IfSome, IsSome, Some, codes, count_by};
+ghost use Rattle.std.specs.Prelude.{◌≡◌, IfOk, IfSome, IsSome, codes, count_by};
 ghost use Rattle.std.specs.Str.{bytes_eq};
-ghost use Rattle.clap.specs.Words.{all_of, found_of, rows_of};
+ghost use Rattle.clap.specs.Words.{found_of, rows_of};
 ghost use Rattle.command_lines.specs.Asked.{HoldsNames, IsValid};
-ghost use Rattle.command_lines.specs.BatchWords.{GivesNames, HasInputs, HasNoInput, HasOneInput, HoldsBatch, batch_name, names_in};
+ghost use Rattle.command_lines.specs.BatchWords.{GivesFiles, GivesNames, HasInputs, HoldsBatch, IsRightCertify, IsRightInfo, batch_name, names_in};
 ghost use Rattle.command_lines.specs.CommandLine.{AreRightArguments, certify_app};
 ghost use Rattle.command_lines.specs.Dimensions.{HasTaskDimensions};
-ghost use Rattle.command_lines.specs.RuleWords.{AreRightRules};
 
 use crate::arguments::{dimensions_of, flag_of, name_of};
 use crate::asked::{Asked, BatchTask, STANDARD_INPUT};
@@ -22,7 +21,7 @@ pub(crate) fn asked_info<'a>(
 ) -> Result<Option<Asked<'a>>, AllocError>
     ensures valid { IfOk result (λ asked. IfSome asked IsValid) }
     ensures gives { IfOk result (λ asked. IfSome asked (HoldsNames (codes "info") (rows_of (found_of given.now)))) }
-    ensures taken { IfOk result (λ asked. GivesNames (rows_of (found_of given.now)) HasOneInput → AreRightRules (rows_of (found_of given.now)) → IsSome asked) }
+    ensures taken { IfOk result (λ asked. IsRightInfo (rows_of (found_of given.now)) → IsSome asked) }
 {
     let Ok(rules) = rules_of(given) else {
         return Ok(None);
@@ -41,7 +40,7 @@ pub(crate) fn asked_certify<'a>(
 ) -> Result<Option<Asked<'a>>, AllocError>
     ensures valid { IfOk result (λ asked. IfSome asked IsValid) }
     ensures gives { IfOk result (λ asked. IfSome asked (HoldsNames (codes "certify") (rows_of (found_of given.now)))) }
-    ensures taken { IfOk result (λ asked. GivesNames (rows_of (found_of given.now)) HasNoInput → AreRightArguments certify_app.top (rows_of (found_of given.now)) → IsSome asked) }
+    ensures taken { IfOk result (λ asked. IsRightCertify (rows_of (found_of given.now)) → IsSome asked) }
 {
     let Some(task) = certify_of(given) else {
         return Ok(None);
@@ -83,9 +82,9 @@ fn names_of<'a>(
     given: &ArgMatches<'a>,
     most: usize,
 ) -> Result<Option<Vec<&'a str>>, AllocError>
-    ensures given { IfOk result (λ given_names. IfSome given_names (λ names. all_of (codes "FILE") (rows_of (found_of given.now)) ≡ Some (names_in names.items))) }
-    ensures inputs { IfOk result (λ given_names. IfSome given_names (λ names. HasInputs most (names_in names.items))) }
-    ensures taken { IfOk result (λ given_names. GivesNames (rows_of (found_of given.now)) (HasInputs most) → IsSome given_names) }
+    ensures given { IfOk result (λ found. IfSome found (λ names. GivesFiles (rows_of (found_of given.now)) (names_in names.items))) }
+    ensures inputs { IfOk result (λ found. IfSome found (λ names. HasInputs most (names_in names.items))) }
+    ensures taken { IfOk result (λ found. GivesNames (rows_of (found_of given.now)) (HasInputs most) → IsSome found) }
 {
     let Some(names) = given.get_strs("FILE") else {
         return Ok(None);
