@@ -31,8 +31,8 @@ where
     I: Read,
     O: FaultCount,
     E: FaultCount,
-    requires inputs { HasRightInputs task.entry (names_in names.now) }
-    requires right { HasTaskDimensions task.entry }
+    requires inputs { HasRightInputs task (names_in names.now) }
+    requires right { HasTaskDimensions task }
     requires capacity_out { O.fault_count out.old < 2 ^ 64 - 1 }
     requires capacity_err { E.fault_count err.old < 2 ^ 64 - 1 }
     ensures written { WritesBatch names.now task.entry (I.remaining input.old) result.end O.contents out.old out.new }
@@ -71,8 +71,8 @@ fn send_lines<R: Files + AllocGlobal, I: Read, O: FaultCount>(
     input: &mut I,
     out: &mut O,
 ) -> CommandEnd
-    requires inputs { HasRightInputs task.entry (names_in names.now) }
-    requires right { HasTaskDimensions task.entry }
+    requires inputs { HasRightInputs task (names_in names.now) }
+    requires right { HasTaskDimensions task }
     requires capacity { O.fault_count out.old < 2 ^ 64 - 1 }
     ensures written { WritesBatch names.now task.entry (I.remaining input.old) result O.contents out.old out.new }
     ensures fault { result ≡ CommandEnd.CannotWrite → O.fault_count out.old < O.fault_count out.new }

@@ -28,7 +28,7 @@ pub(crate) fn batch_line<R: Files + AllocGlobal, I: Read>(
     name: &str,
     input: &mut I,
 ) -> Result<FileLine, AllocError>
-    requires right { HasTaskDimensions task.entry }
+    requires right { HasTaskDimensions task }
     ensures line { IfOk result (λ it. IsLineBy it.end task.entry name.entry.now (I.remaining input.old) it.text.items) }
     ensures unread { name.entry.now ≢ standard_input → Keeps (I.remaining input.old) (I.remaining input.new) }
 {
@@ -66,7 +66,7 @@ fn line_of<R: Files + AllocGlobal, I: Read>(
     name: &str,
     input: &mut I,
 ) -> Result<FileLine, AllocError>
-    requires right { HasTaskDimensions task.entry }
+    requires right { HasTaskDimensions task }
     ensures line { IfOk result (λ it. IsLineOf it.end task.entry name.entry.now (I.remaining input.old) it.text.items) }
     ensures unread { name.entry.now ≢ standard_input → Keeps (I.remaining input.old) (I.remaining input.new) }
 {

@@ -26,7 +26,7 @@ pub(crate) fn kept_line<R: Files + AllocGlobal>(
     asked: Certifying<'_>,
     place: Place<'_>,
 ) -> Result<Option<FileLine>, AllocError>
-    requires place { IsPlace asked.entry place.entry }
+    requires place { IsPlace asked place }
     ensures { IfOk result (λ line. IfSome line (IsLineFor asked.entry place.entry.name.now)) }
 {
     let Ok(certificate) = read_plain(rt, place.path) else {
@@ -61,13 +61,13 @@ pub(crate) fn certified_line(
     certificate: &[u8],
     cleared: &Cleared<'_>,
 ) -> Result<FileLine, AllocError>
-    requires place { IsPlace asked.entry place.entry }
-    requires accepted { IsAnswer place.entry.file.now certificate.now accepted }
-    requires opened { IsOpenedFrom place.entry.file.now cleared.now.opened }
+    requires place { IsPlace asked place }
+    requires accepted { IsAnswer place.file.now certificate.now accepted }
+    requires opened { IsOpenedFrom place.file.now cleared.now.opened }
     requires read { read_certificate certificate.now ≡ Ok (certificate_of cleared.now.certificate) }
     requires rules { cleared.now.certificate.rules ≡ rules_in certificate.now }
-    requires under { rules_in certificate.now ≡ in_force asked.entry.rules }
-    requires bound { IsForBound asked.entry.width asked.entry.height certificate.now }
+    requires under { rules_in certificate.now ≡ in_force asked.rules }
+    requires bound { IsForBound asked.width asked.height certificate.now }
     ensures { IfOk result (IsLineFor asked.entry place.entry.name.now) }
 {
     answer_law();

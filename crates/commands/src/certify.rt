@@ -24,7 +24,7 @@ pub(crate) fn certify_line<R: Files + AllocGlobal>(
     asked: Certifying<'_>,
     name: &str,
 ) -> Result<FileLine, AllocError>
-    requires sides { HasSides asked.entry }
+    requires sides { HasSides asked }
     ensures { IfOk result (IsLineFor asked.entry name.now) }
 {
     match line_of_name(rt, asked, name) {
@@ -42,7 +42,7 @@ fn line_of_name<R: Files + AllocGlobal>(
     asked: Certifying<'_>,
     name: &str,
 ) -> Result<FileLine, PlainFault>
-    requires sides { HasSides asked.entry }
+    requires sides { HasSides asked }
     ensures { IfOk result (IsLineFor asked.entry name.now) }
 {
     let Some(path) = certificate_path(rt.alloc(), asked.folder, name)? else {
@@ -66,8 +66,8 @@ fn line_of_file<R: Files + AllocGlobal>(
     asked: Certifying<'_>,
     place: Place<'_>,
 ) -> Result<FileLine, AllocError>
-    requires sides { HasSides asked.entry }
-    requires place { IsPlace asked.entry place.entry }
+    requires sides { HasSides asked }
+    requires place { IsPlace asked place }
     ensures { IfOk result (IsLineFor asked.entry place.entry.name.now) }
 {
     let store = how_to_store(rt, asked, place);
@@ -86,8 +86,8 @@ fn prepared_line<R: Files + AllocGlobal>(
     place: Place<'_>,
     store: Store,
 ) -> Result<FileLine, AllocError>
-    requires sides { HasSides asked.entry }
-    requires place { IsPlace asked.entry place.entry }
+    requires sides { HasSides asked }
+    requires place { IsPlace asked place }
     ensures line { IfOk result (IsLineFor asked.entry place.entry.name.now) }
     ensures stored { IfOk result (StoresIfDone R.File.contents asked.entry place.entry.file.now) }
 {
@@ -110,8 +110,8 @@ fn rejected_line(
     place: Place<'_>,
     refusal: Refusal,
 ) -> Result<FileLine, AllocError>
-    requires place { IsPlace asked.entry place.entry }
-    requires refusal { IsRefusalFor asked.entry place.entry.file.now refusal }
+    requires place { IsPlace asked place }
+    requires refusal { IsRefusalFor asked place.file.now refusal }
     ensures line { IfOk result (IsLineFor asked.entry place.entry.name.now) }
     ensures end { IfOk result (λ it. it.end ≡ CommandEnd.Rejected) }
 {
@@ -137,7 +137,7 @@ fn unstored_line(
     place: Place<'_>,
     fault: StoreFault,
 ) -> Result<FileLine, AllocError>
-    requires place { IsPlace asked.entry place.entry }
+    requires place { IsPlace asked place }
     ensures line { IfOk result (IsLineFor asked.entry place.entry.name.now) }
     ensures end { IfOk result (λ it. it.end ≢ CommandEnd.Done) }
 {

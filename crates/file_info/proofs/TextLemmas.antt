@@ -1,19 +1,24 @@
 -- The text of a report in pieces: the first members, the faults, and the last members.
 use Rattle.std.proofs.Common.{◌≡◌, ◌∙◌, ◌||◌, if◌then◌else◌, ℕ, Bool, true, false, List, [], ◌∷◌, ◌++◌, Option, Some, None, ℤ, pos, negsuc, drop, codes, option_map, string_bytes, refl, sym, ap}
+use Rattle.std.proofs.lemmas.Bool.{or_from}
 use Rattle.std.proofs.lemmas.List.{append_assoc}
 use Rattle.serde_json.specs.Data.{Data, Items, Members, array, boolean, member, no_members, null, object, put, string}
 use Rattle.serde_json.specs.Written.{comma_if, compact_text, has_float, items_text, members_have_float, members_text}
 use Rattle.mapping.specs.declared.geometry.Rect.{Rect}
+use Rattle.draw_ops.specs.Fault.{record_kind_of}
 use Rattle.draw_ops.specs.RuleSets.{is_print}
 use Rattle.meta_headers.specs.declared.opened.FileFormat.{FileFormat}
 use Rattle.report_parts.specs.Parts.{notes_data, report_text, text_if, whole_if}
-use Rattle.report_parts.specs.Whole.{if_whole, notes_whole, profile_whole, put_whole, text_whole}
+use Rattle.report_parts.specs.Whole.{allowed_whole, if_whole, notes_whole, profile_whole, put_whole, text_whole, uses_whole}
 use Rattle.file_info.specs.Info.{is_playing}
-use Rattle.file_info.specs.InfoReport.{axes_data, box_data, counted_items, dots_if, drawings_if, emf_frame_if, fault_if, first_members, format_data, frame_data, info_line, joined, kind_if, last_members, name_if, objects_if, paper_if, record_if, records_data, uses_if}
+use Rattle.file_info.specs.InfoReport.{axes_data, box_data, counted_data, counted_items, dots_if, drawings_if, emf_frame_if, fault_if, first_members, format_data, frame_data, info_line, joined, kind_if, last_members, name_if, objects_if, paper_if, record_if, records_data, signed, uses_if}
 use Rattle.file_info.specs.JoinedText.{PutsFaults, faults_text}
+use Rattle.file_info.specs.declared.fault_count.FaultCount.{FaultCount}
 use Rattle.file_info.specs.declared.info.FileInfo.{FileInfo}
 use Rattle.file_info.specs.declared.paper.Axes.{Axes}
 use Rattle.file_info.specs.declared.paper.Sizes.{Sizes}
+use Rattle.file_info.specs.declared.playing.Playing.{Playing}
+use Rattle.file_info.specs.declared.playing.Playing.TheVariants.{Plays, Stops}
 
 -- the first and the last members of the core profile
 abbrev plain_first : FileInfo → Members
@@ -156,3 +161,38 @@ last_whole name info =
     let m9 = put (codes "file") (string name) m8 in
     let e9 : members_have_float m9 ≡ false = put_whole (codes "file") (string name) m8 refl e8 in
     profile_whole info.rules m9 e9
+
+-- and those of a counted fault
+pub counted_whole : (format : Option FileFormat) (counted : FaultCount) → has_float (counted_data format counted) ≡ false
+counted_whole format counted =
+    or_from _ _ refl (or_from _ _ refl (or_from _ _ (if_whole (record_kind_of counted.fault)) (or_from _ _ (text_whole (name_if format (record_kind_of counted.fault))) refl)))
+
+-- and those of the first members
+signed_whole : (n : ℤ) → has_float (signed n) ≡ false
+signed_whole (pos n) = refl
+signed_whole (negsuc n) = refl
+
+box_whole : (box : Option Rect) → has_float (box_data box) ≡ false
+box_whole None = refl
+box_whole (Some box) = or_from _ _ (signed_whole box.l) (or_from _ _ (signed_whole box.t) (or_from _ _ (signed_whole box.r) (or_from _ _ (signed_whole box.b) refl)))
+
+uses_if_whole : (playing : Playing) → has_float (uses_if playing) ≡ false
+uses_if_whole (Plays drawings objects uses) = uses_whole uses.held_deletion uses.emf_plus
+uses_if_whole (Stops r) = refl
+
+pub first_whole : (info : FileInfo) → has_float (object (first_members info)) ≡ false
+first_whole info =
+    let m0 = put (codes "fault") (text_if (fault_if info.playing)) no_members in
+    let e0 : members_have_float m0 ≡ false = put_whole (codes "fault") (text_if (fault_if info.playing)) no_members (text_whole (fault_if info.playing)) refl in
+    let m1 = put (codes "error") null m0 in
+    let e1 : members_have_float m1 ≡ false = put_whole (codes "error") null m0 refl e0 in
+    let m2 = put (codes "emf_frame") (box_data (emf_frame_if info.sizes)) m1 in
+    let e2 : members_have_float m2 ≡ false = put_whole (codes "emf_frame") (box_data (emf_frame_if info.sizes)) m1 (box_whole (emf_frame_if info.sizes)) e1 in
+    let m3 = put (codes "drawings") (whole_if (drawings_if info.playing)) m2 in
+    let e3 : members_have_float m3 ≡ false = put_whole (codes "drawings") (whole_if (drawings_if info.playing)) m2 (if_whole (drawings_if info.playing)) e2 in
+    let m4 = put (codes "dots_per_inch") (axes_data (dots_if info.sizes)) m3 in
+    let e4 : members_have_float m4 ≡ false = put_whole (codes "dots_per_inch") (axes_data (dots_if info.sizes)) m3 (axes_whole (dots_if info.sizes)) e3 in
+    let text = option_map string_bytes info.description in
+    let m5 = put (codes "description") (text_if text) m4 in
+    let e5 : members_have_float m5 ≡ false = put_whole (codes "description") (text_if text) m4 (text_whole text) e4 in
+    allowed_whole info.rules (uses_if info.playing) m5 (uses_if_whole info.playing) e5

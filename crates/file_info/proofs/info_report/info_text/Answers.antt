@@ -3,8 +3,11 @@ use Rattle.std.proofs.Common.{◌≡◌, ◌∙◌, ◌++◌, List, ℕ, [], ◌
 use Rattle.serde_json.specs.Data.{object}
 use Rattle.serde_json.specs.Written.{compact_text}
 use Rattle.file_info.specs.InfoReport.{last_members}
-use Rattle.file_info.proofs.TextLemmas.{in_pieces, last_whole}
+use Rattle.file_info.proofs.TextLemmas.{first_whole, in_pieces, last_whole}
 use Rattle.file_info.proofs.info_report.info_text.Goals as goal
+
+pub compact_text_of-requires : goal.compact_text_of-requires
+compact_text_of-requires c = rw c.in_ok-first.ensures (first_whole c.args.info.now)
 
 pub compact_text_of-requires-2 : goal.compact_text_of-requires-2
 compact_text_of-requires-2 c = rw c.in_ok-last.ensures (last_whole c.args.name.now c.args.info.now)
