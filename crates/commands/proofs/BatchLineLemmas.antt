@@ -1,13 +1,13 @@
 -- The lines that a task on several files has written, file by file.
-use Rattle.std.proofs.Common.{◌≡◌, ◌≤◌, ◌<◌, ◌+◌, ◌++◌, ◌∙◌, ap, sym, subst, refl, arith, ℕ, Bool, true, false, List, [], ◌∷◌, Option, Some, None, IfSome, MatchOption, Bor, codes, cond, count_by, drop, flat_map, fold, get_or, length, map, nat_lt, suc, take, unwrap_or, zero}
+use Rattle.std.proofs.Common.{◌≡◌, ◌<◌, ◌+◌, ◌++◌, ◌∙◌, ap, sym, subst, refl, arith, ℕ, Bool, true, false, List, [], ◌∷◌, Option, Some, None, MatchOption, Bor, codes, cond, count_by, drop, flat_map, get_or, length, nat_lt, suc, take, zero}
 use Rattle.std.specs.Io.KnownBytes.{Appends, Keeps}
 use Rattle.std.specs.List.{AllZip}
 use Rattle.std.specs.Str.{bytes_eq}
 use Rattle.std.proofs.KnownBytes.{Keeps-trans}
-use Rattle.std.proofs.lemmas.List.{append_assoc, append-nil, take-append-drop, take_more}
+use Rattle.std.proofs.lemmas.List.{append_assoc, append-nil, take_more}
 use Rattle.std.proofs.lemmas.List.Sums.{fold_push, sum_by-append}
 use Rattle.canvas.specs.Ppm.{AppendsPrefix}
-use Rattle.canvas.specs.Sending.{Sending, sending_all, sending_kept, sending_none, sending_prefix, sending_prefix_more, sending_rest, sending_whole}
+use Rattle.canvas.specs.Sending.{sending_all, sending_kept, sending_none, sending_prefix, sending_prefix_more, sending_rest, sending_whole}
 use Rattle.command_lines.specs.declared.asked.BatchTask.{BatchTask}
 use Rattle.command_lines.specs.declared.asked.BatchTask.TheVariants.{Certify, Info}
 use Rattle.command_lines.specs.BatchWords.{HasOneInput, HasRightInputs, names_in}

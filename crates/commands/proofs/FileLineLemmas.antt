@@ -1,5 +1,5 @@
 -- The line about one file.
-use Rattle.std.proofs.Common.{◌≡◌, ◌↔◌, ◌∙◌, sym, refl, ℕ, Bool, true, false, List, [], Option, Some, None, Result, Ok, Err, IfOk, unwrap_or}
+use Rattle.std.proofs.Common.{◌≡◌, ◌↔◌, sym, refl, ℕ, Bool, true, false, List, [], Option, Some, None, unwrap_or}
 use Rattle.draw_ops.specs.declared.rules.Rules.{Rules}
 use Rattle.file_info.specs.Info.{IsInfoOf, PlaysEverywhere, is_playing}
 use Rattle.file_info.specs.InfoReport.{info_line}

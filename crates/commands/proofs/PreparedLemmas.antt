@@ -1,5 +1,5 @@
 -- A surface of the size that a certificate was prepared for, and why a file isn't prepared.
-use Rattle.std.proofs.Common.{◌≡◌, ◌≤◌, ◌⊎◌, inl, inr, Bool, true, false, ℕ, List, Option, Some, None, Result, Ok, Err, IsOk, ap, arith, refl, subst, sym}
+use Rattle.std.proofs.Common.{◌≡◌, ◌⊎◌, inl, inr, Bool, true, false, ℕ, List, Result, Ok, Err, IsOk, ap, arith, refl, subst}
 use Rattle.std.proofs.lemmas.Bool.{and_from, true≢false}
 use Rattle.mapping.specs.Limits.{IsSurfaceSide, is_surface_side, surface_side_from}
 use Rattle.draw_ops.specs.Results.{result_map}

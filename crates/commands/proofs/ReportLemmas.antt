@@ -1,7 +1,7 @@
 -- All numbers of a report are integers, and it has as many drawings as there are entries.
 use Rattle.std.proofs.Common.{◌≡◌, ◌∙◌, ◌⊎◌, inl, inr, ap, subst, sym, Result, Ok, true, false, ℕ, List, [], ◌∷◌, length, Option, codes, refl}
 use Rattle.serde_json.specs.Data.{boolean, no_members, object, put, string}
-use Rattle.serde_json.specs.Written.{has_float, members_have_float}
+use Rattle.serde_json.specs.Written.{members_have_float}
 use Rattle.mapping.specs.Surface.{Surface}
 use Rattle.draw_ops.specs.declared.rules.Rules.{Rules}
 use Rattle.draw_ops.specs.declared.fault.Fault.{Fault}

@@ -1,5 +1,5 @@
 -- What a task on several files writes, and what it reports.
-use Rattle.std.specs.Prelude.{◌≡◌, ◌≢◌, ◌++◌, ℕ, Bool, List, [], ◌∷◌, Option, Some, None, MatchOption, codes, flat_map, fold, if◌then◌else◌, nat_lt, true}
+use Rattle.std.specs.Prelude.{◌≡◌, ◌≢◌, ◌++◌, ℕ, Bool, List, [], ◌∷◌, Option, None, MatchOption, codes, flat_map, fold, if◌then◌else◌, nat_lt, true}
 use Rattle.std.specs.Borrow.{Bor}
 use Rattle.std.specs.List.{AllZip}
 use Rattle.command_lines.specs.BatchWords.{names_in}

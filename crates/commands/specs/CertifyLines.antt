@@ -1,6 +1,5 @@
 -- The line of `certify` about a file, as JSON.
-use Rattle.std.specs.Prelude.{◌≡◌, ◌++◌, ℕ, List, [], ◌∷◌, Option, Some, None, codes, option_map}
-use Rattle.std.specs.List.{Any}
+use Rattle.std.specs.Prelude.{◌≡◌, ◌⊎◌, ◌++◌, ℕ, List, Option, Some, None, codes, option_map}
 use Rattle.std.specs.Path.{path_file_name, path_join}
 use Rattle.hex.specs.Hex.{encode_lower}
 use Rattle.serde_json.specs.Data.{Members, no_members, null, object, put, string}
@@ -78,23 +77,27 @@ failed_line name path file_digest error =
     report_text (object (with_files name path None file_digest (Some error) (put (codes "accepted") null no_members)))
 
 -- why a file isn't read
-abbrev pub unread_reasons : List (List ℕ)
-unread_reasons = codes "cannot read" ∷ codes "not a plain file" ∷ []
+abbrev pub IsUnreadReason : List ℕ → Type 0
+IsUnreadReason reason = (reason ≡ codes "cannot read") ⊎ (reason ≡ codes "not a plain file")
 
--- why a certificate isn't stored: something else has its name
-abbrev pub unstored_reasons : List (List ℕ)
-unstored_reasons = codes "cannot write" ∷ codes "the certificate's name is taken" ∷ []
+-- why a certificate isn't stored
+abbrev pub IsUnstoredReason : List ℕ → Type 0
+IsUnstoredReason reason = (reason ≡ codes "cannot write") ⊎ (reason ≡ codes "the certificate's name is taken")
 
 -- the line about a file that wasn't read
-abbrev pub IsUnreadFileLine : List ℕ → List ℕ → Type 0
-IsUnreadFileLine name text = Any (λ reason. text ≡ failed_line name None None reason) unread_reasons
+pub record IsUnreadFileLine (name text : List ℕ) : Type 0 where
+  pub reason : List ℕ
+  pub why : IsUnreadReason reason
+  pub is_text : text ≡ failed_line name None None reason
 
 -- the line about a file that was read, and whose certificate isn't at its path
 pub record IsUnstoredLine (asked : Certificates) (name text : List ℕ) : Type 0 where
   pub bytes : List ℕ
   pub path : List ℕ
+  pub reason : List ℕ
+  pub why : IsUnstoredReason reason
   pub named : certificate_path asked.folder name ≡ Some path
-  pub is_text : Any (λ reason. text ≡ failed_line name (Some path) (Some (digest_text bytes)) reason) unstored_reasons
+  pub is_text : text ≡ failed_line name (Some path) (Some (digest_text bytes)) reason
 
 -- The line about a file, by how the work on it ends.
 abbrev pub IsCertifyLine : CommandEnd → Certificates → List ℕ → List ℕ → Type 0

@@ -49,14 +49,16 @@ fn shown_if_marked(name: &str) -> Option<&str>
 fn wrong_name(alloc: Global, task: BatchTask<'_>, shown: &str) -> Result<FileLine, AllocError>
     ensures { IfOk result (λ it. IsWrongNameLine it.end task.entry shown.now it.text.items) }
 {
-    let text = match task {
-        BatchTask::Info { rules } => unread_text(alloc, rules, shown, WRONG_NAME)?,
-        BatchTask::Certify { .. } => failed_text(alloc, shown, None, None, WRONG_NAME)?,
-    };
-    Ok(FileLine {
-        text,
-        end: CommandEnd::CannotRead,
-    })
+    match task {
+        BatchTask::Info { rules } => Ok(FileLine {
+            text: unread_text(alloc, rules, shown, WRONG_NAME)?,
+            end: CommandEnd::CannotRead,
+        }),
+        BatchTask::Certify { .. } => Ok(FileLine {
+            text: failed_text(alloc, shown, None, None, WRONG_NAME)?,
+            end: CommandEnd::CannotRead,
+        }),
+    }
 }
 
 /// Does the task on a file whose name is UTF-8, or on standard input.

@@ -1,7 +1,6 @@
 //! The lines of `certify`, as JSON.
 
 ghost use Rattle.std.specs.Prelude.{◌≡◌, IfOk, OnOk, string_bytes};
-ghost use Rattle.serde_json.specs.View.{members_view};
 ghost use Rattle.commands.specs.CertifyLines.{digest_text};
 ghost use Rattle.commands.specs.CertifyReport.{PutsFiles, text_of_failure, text_of_members, text_of_refusal};
 ghost use Rattle.commands.specs.ClearedFiles.{members_of};

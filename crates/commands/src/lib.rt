@@ -32,13 +32,13 @@
 //!   reason why there is neither (`batch_command`, by `IsCertifyLine`). A certificate that wasn't there is the one that
 //!   `prepare` makes, stored as `prepare` does (`prepared_line`).
 //! - A name that isn't UTF-8 has such a line too, and no file is opened by it (`batch_command`, by `IsMark`).
-//! - If an allocation fails, nothing was written, except whole lines of `info` and `certify`. For `show`, `prepare` and `list` the
-//!   file opens in that case, and for `play` and `over` the certificate can be read too.
+//! - If an allocation fails, nothing was written, except whole lines of `info` and `certify`. For `show`, `prepare` and
+//!   `list` the file opens in that case, and for `play` and `over` the certificate can be read too.
 //! - If an output fails, a prefix of such a text was written. A command ends by `CannotWrite` only if its output
 //!   failed: the output counts its faults, and that count rose.
 //! - A command that is done has flushed its output after the last byte. So have `check` after the report of a
-//!   rejection, `list` after records that break, and `info` and `certify` unless the output failed or an allocation did. A prepared
-//!   certificate goes to its own file, and standard output is unchanged (`run_words`, `run`).
+//!   rejection, `list` after records that break, and `info` and `certify` unless the output failed or an allocation did.
+//!   A prepared certificate goes to its own file, and standard output is unchanged (`run_words`, `run`).
 //! - The program's `prepare` is done only after the whole certificate was appended to the file that was opened for it,
 //!   and that file was flushed. A new file was then written to the disk, and then got its name (`NamedOutput::store`, and
 //!   `prepare_to_file`, by `Stores`).

@@ -34,7 +34,7 @@ use canvas::FaultCount;
 use clap::error::ErrorKind;
 use command_lines::{Asked, CommandLine, line};
 use proportions::Sides;
-use std::alloc::{AllocError, Global};
+use std::alloc::AllocError;
 use std::io::Read;
 use std::rt::{Env, Files};
 

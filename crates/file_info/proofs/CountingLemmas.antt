@@ -1,8 +1,8 @@
 -- What was counted up to a record, and what is counted after it.
-use Rattle.std.proofs.Common.{◌≡◌, ◌+◌, ◌≤◌, ◌<◌, ℕ, suc, Bool, true, false, List, [], ◌∷◌, ◌++◌, length, Option, Some, None, Result, Ok, Err, refl, sym, ap, subst, ◌∙◌, arith}
+use Rattle.std.proofs.Common.{◌≡◌, ◌≤◌, ◌<◌, ℕ, suc, List, [], ◌∷◌, length, Option, Some, None, Result, sym, ap, subst, ◌∙◌, arith}
 use Rattle.std.proofs.lemmas.List.{length-append}
 use Rattle.draw_ops.specs.Content.{StepValue}
-use Rattle.draw_ops.specs.Framed.{ahead, broken}
+use Rattle.draw_ops.specs.Framed.{ahead}
 use Rattle.draw_ops.specs.RecordOf.{record_of}
 use Rattle.draw_ops.specs.Records.{Framed, Framing, record_limit}
 use Rattle.draw_ops.specs.declared.fault.Fault.{Fault}

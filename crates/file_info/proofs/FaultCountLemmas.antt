@@ -1,14 +1,14 @@
 -- One more fault is counted.
-use Rattle.std.proofs.Common.{◌≡◌, ◌+◌, ◌≤◌, ◌<◌, ℕ, Bool, true, false, cond, List, [], ◌∷◌, ◌++◌, length, Option, Some, None, refl, sym, ap, subst, ◌∙◌, arith, eqb, min, nat_lt}
+use Rattle.std.proofs.Common.{◌≡◌, ◌+◌, ◌<◌, ℕ, Bool, true, false, cond, List, [], ◌∷◌, ◌++◌, length, Option, Some, None, refl, ap, subst, arith, eqb, nat_lt}
 use Rattle.std.specs.BTreeMap.{is_at}
 use Rattle.std.specs.List.Sorted.{IsStrictlySortedBy}
 use Rattle.std.specs.Map.{keys_of, lookup}
-use Rattle.std.specs.Ordering.{is_eq, nat_cmp}
+use Rattle.std.specs.Ordering.{nat_cmp}
 use Rattle.std.proofs.lemmas.Bool.{eq-eqb, eqb-true}
 use Rattle.std.proofs.lemmas.Bool.Decides.{nat_tests}
 use Rattle.std.proofs.lemmas.List.Sums.{count_by-le-length, sum_by_push}
 use Rattle.draw_ops.specs.declared.fault.Fault.{Fault}
-use Rattle.file_info.specs.FaultCounts.{CountsFaults, CountsOneMore, IsCountAt, IsCounted, count_with, fault_key, fault_limit, occurrences}
+use Rattle.file_info.specs.FaultCounts.{CountsOneMore, IsCountAt, IsCounted, count_with, fault_key, fault_limit, occurrences}
 use Rattle.file_info.specs.declared.fault_count.FaultCount.{FaultCount}
 
 -- a key is at its own place, and at no other

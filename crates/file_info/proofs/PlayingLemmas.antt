@@ -1,6 +1,5 @@
 -- A file whose run on the largest surface has no fault plays on every surface, and no other does.
-use Rattle.std.proofs.Common.{◌≡◌, ◌≤◌, ◌⊎◌, inl, inr, ℕ, List, Option, Some, None, Result, Ok, Err, refl, sym, ◌∙◌, arith}
-use Rattle.mapping.specs.Image.{Image}
+use Rattle.std.proofs.Common.{◌≡◌, ◌⊎◌, inl, inr, ℕ, List, Option, Result, Ok, Err, refl, sym, ◌∙◌, arith}
 use Rattle.mapping.specs.Limits.{surface_side_limit}
 use Rattle.draw_ops.specs.declared.fault.Fault.{Fault}
 use Rattle.draw_ops.specs.declared.fault.Fault.TheVariants.{OutOfMemory}

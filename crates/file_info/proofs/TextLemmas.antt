@@ -2,17 +2,17 @@
 use Rattle.std.proofs.Common.{◌≡◌, ◌∙◌, ◌||◌, if◌then◌else◌, ℕ, Bool, true, false, List, [], ◌∷◌, ◌++◌, Option, Some, None, ℤ, pos, negsuc, drop, codes, option_map, string_bytes, refl, sym, ap}
 use Rattle.std.proofs.lemmas.Bool.{or_from}
 use Rattle.std.proofs.lemmas.List.{append_assoc}
-use Rattle.serde_json.specs.Data.{Data, Items, Members, array, boolean, member, no_members, null, object, put, string}
+use Rattle.serde_json.specs.Data.{Items, Members, array, boolean, member, no_members, null, object, put, string}
 use Rattle.serde_json.specs.Written.{comma_if, compact_text, has_float, items_text, members_have_float, members_text}
 use Rattle.mapping.specs.declared.geometry.Rect.{Rect}
 use Rattle.draw_ops.specs.Fault.{record_kind_of}
 use Rattle.draw_ops.specs.RuleSets.{is_print}
 use Rattle.meta_headers.specs.declared.opened.FileFormat.{FileFormat}
-use Rattle.report_parts.specs.Parts.{notes_data, report_text, text_if, whole_if}
+use Rattle.report_parts.specs.Parts.{notes_data, text_if, whole_if}
 use Rattle.report_parts.specs.Whole.{allowed_whole, if_whole, notes_whole, profile_whole, put_whole, text_whole, uses_whole}
 use Rattle.file_info.specs.Info.{is_playing}
 use Rattle.file_info.specs.InfoReport.{axes_data, box_data, counted_data, counted_items, dots_if, drawings_if, emf_frame_if, fault_if, first_members, format_data, frame_data, info_line, joined, kind_if, last_members, name_if, objects_if, paper_if, record_if, records_data, signed, uses_if}
-use Rattle.file_info.specs.JoinedText.{PutsFaults, faults_text}
+use Rattle.file_info.specs.JoinedText.{PutsFaults}
 use Rattle.file_info.specs.declared.fault_count.FaultCount.{FaultCount}
 use Rattle.file_info.specs.declared.info.FileInfo.{FileInfo}
 use Rattle.file_info.specs.declared.paper.Axes.{Axes}

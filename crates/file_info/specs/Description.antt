@@ -5,7 +5,7 @@ use Rattle.point_views.specs.Counts.{counts_in}
 use Rattle.point_views.specs.Numbers.{number_at}
 use Rattle.point_views.specs.declared.numbers.NumberWidth.TheVariants.{Short}
 use Rattle.meta_headers.specs.declared.opened.FileFormat.{FileFormat}
-use Rattle.meta_headers.specs.declared.opened.FileFormat.TheVariants.{Placeable, Plain, Emf}
+use Rattle.meta_headers.specs.declared.opened.FileFormat.TheVariants.{Emf}
 use Rattle.file_info.specs.Paper.{has_emf_header}
 
 -- nDescription, the number of the text's UTF-16 code units, and offDescription, where they begin

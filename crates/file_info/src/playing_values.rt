@@ -2,7 +2,7 @@
 
 ghost use Rattle.std.specs.Prelude.{◌≡◌, IfOk, option_map};
 ghost use Rattle.serde_json.specs.View.{view};
-ghost use Rattle.report_parts.specs.Parts.{text_if, whole_if};
+ghost use Rattle.report_parts.specs.Parts.{whole_if};
 ghost use Rattle.file_info.specs.InfoReport.{drawings_if, fault_if, kind_if, name_if, objects_if, record_if, uses_if};
 
 use crate::playing::Playing;

@@ -1,11 +1,10 @@
 -- The end record: it does nothing, and EMF+ without a drawing is told in it.
-use Rattle.std.proofs.Common.{◌≡◌, ℕ, ◌-◌, Bool, true, false, ◌&&◌, ◌||◌, not, if◌then◌else◌, List, [], ◌∷◌, Option, Some, None, is_some, Result, Ok, refl, ap, sym, ◌∙◌}
-use Rattle.std.specs.Option.{option_or}
-use Rattle.draw_ops.specs.Content.{Content, StepValue, with_step}
-use Rattle.draw_ops.specs.Meaning.{DecodedValue, end_notes, step_decoded, unnoted}
+use Rattle.std.proofs.Common.{◌≡◌, ℕ, ◌-◌, Bool, true, false, ◌&&◌, ◌||◌, not, if◌then◌else◌, List, [], ◌∷◌, Option, Some, None, is_some, Ok, refl, ap, ◌∙◌}
+use Rattle.draw_ops.specs.Content.{StepValue}
+use Rattle.draw_ops.specs.Meaning.{end_notes, step_decoded, unnoted}
 use Rattle.draw_ops.specs.NoteCounts.{no_notes}
 use Rattle.draw_ops.specs.NoteKinds.{is_noted}
-use Rattle.draw_ops.specs.Operation.{Operation, no_effect}
+use Rattle.draw_ops.specs.Operation.{no_effect}
 use Rattle.draw_ops.specs.Records.{Record}
 use Rattle.draw_ops.specs.RuleSets.{allows_emf_plus}
 use Rattle.draw_ops.specs.declared.note.Note.TheVariants.{EmfPlus as EmfPlusNote}
@@ -25,7 +24,7 @@ use Rattle.dc_stack.specs.State.{State}
 use Rattle.mapping.specs.Surface.{Surface}
 use Rattle.preflight_cert.specs.Drawings.{NumberedDrawing, drawing_then, drawings_of}
 use Rattle.preflight_cert.specs.EmfPlus.{emf_plus_of, have_drawing, have_emf_plus, is_drawn, is_emf_plus_alone}
-use Rattle.preflight_cert.specs.Stop.{Stop, broken_after, emf_plus_stop, stop_at}
+use Rattle.preflight_cert.specs.Stop.{Stop, emf_plus_stop, stop_at}
 use Rattle.preflight_cert.specs.declared.emf_plus.EmfPlus.{EmfPlus}
 use Rattle.listing.specs.DryRunState.{end_fault, fault_met, found_with}
 

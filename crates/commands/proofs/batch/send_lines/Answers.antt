@@ -1,8 +1,8 @@
 -- One file after the other.
-use Rattle.std.proofs.Common.{◌≡◌, ◌+◌, ◌≤◌, arith, sym, ◌∙◌, drop, take, rules}
+use Rattle.std.proofs.Common.{arith}
 use Rattle.std.proofs.lemmas.List.{take_all}
 use Rattle.command_lines.specs.BatchWords.{names_in}
-use Rattle.commands.proofs.BatchLineLemmas.{HasLines, lines_before, lines_finished, lines_unflushed, next_input, then_begun, then_lines, then_unread}
+use Rattle.commands.proofs.BatchLineLemmas.{lines_before, lines_finished, lines_unflushed, next_input, then_begun, then_lines, then_unread}
 use Rattle.commands.proofs.batch.send_lines.Goals as goal
 
 pub returns-in_default-clause-written : goal.returns-in_default-clause-written

@@ -3,4 +3,4 @@ use Rattle.commands.proofs.ReportLemmas.{rejected_whole}
 use Rattle.commands.proofs.check_report.rejected_report.Goals as goal
 
 pub report_text_of-requires : goal.report_text_of-requires
-report_text_of-requires c = rw c.in_ok-members.ensures (rejected_whole c.args.refusal.number c.args.refusal.fault)
+report_text_of-requires c = rw (c.from.ensures, c.in_ok-members.ensures) (rejected_whole c.args.refusal.number c.args.refusal.fault)

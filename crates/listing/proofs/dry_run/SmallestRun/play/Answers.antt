@@ -2,7 +2,7 @@
 use Rattle.std.proofs.Common.{rules}
 use Rattle.draw_ops.specs.OperationOf.{operation_of}
 use Rattle.listing.proofs.DryRunStateLemmas.{rejected_here}
-use Rattle.listing.proofs.PathLemmas.{stays_landed, unchanged_landed}
+use Rattle.listing.proofs.PathLemmas.{stays_landed}
 use Rattle.listing.proofs.dry_run.SmallestRun.play.Goals as goal
 
 pub returns-in-Err-clause-on_smallest : goal.returns-in-Err-clause-on_smallest
