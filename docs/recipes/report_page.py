@@ -149,10 +149,16 @@ def figure(picture: Picture, name: str) -> str:
     return f'<p class="picture"><img src="data:image/png;base64,{data}" {sides} alt="{html.escape(name)}"></p>'
 
 
+def term(head: str, text: str) -> str:
+    """What is known of a file by its name. A list stands below the name, not beside it."""
+    kind = ' class="long"' if text.startswith("<ul>") else ""
+    return f"<div{kind}><dt>{head}</dt><dd>{text}</dd></div>"
+
+
 def card(entry: Entry, texts: Texts) -> str:
     """What the page says of a file."""
     reason = f': <b class="reason">{html.escape(shown(entry.reason))}</b>' if entry.reason else ""
-    terms = "".join(f"<div><dt>{head}</dt><dd>{text}</dd></div>" for head, text in facts(entry, texts))
+    terms = "".join(term(*it) for it in facts(entry, texts))
     return "\n".join(
         [
             f'<article class="{entry.verdict.value}">',
