@@ -39,9 +39,9 @@ format        accepted    rejected    in error
 emf                  1           1           0
 wmf                  1           0           0
 
-program           accepted    rejected    in error
-(not said)               0           1           1
-Ink\\x1bscape             1           0           0
+program         accepted    rejected    in error
+(not said)             0           1           1
+Ink\\x1bscape           1           0           0
 
 """
 
