@@ -138,7 +138,7 @@ class Parallel(ClusterRecipes):
         # One file a job, and a program that waits at one of them until it is let go.
         (self.folder / "metaplay").rename(self.folder / "program")
         stops = self.folder / "metaplay"
-        stops.write_text('#!/bin/sh\ncase $* in *polygons*) [ -e go ] || { touch waits; exec sleep 60; } ;; esac\nexec ./program "$@"\n')
+        stops.write_text('#!/bin/sh\ncase $* in *polygons*) [ -e go ] || { touch waits; exec sleep 20; } ;; esac\nexec ./program "$@"\n')
         stops.chmod(0o755)
         command = commands(PARALLEL)[0].replace("-n 200", "-n 1 -j 2")
         with subprocess.Popen(["sh", "-c", command], cwd=self.folder, env=self.settings, start_new_session=True) as running:
