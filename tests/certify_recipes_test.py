@@ -2,12 +2,13 @@
 
 import json
 import os
+import signal
 import subprocess
 import unittest
 
-from built import DOT, SAMPLES
+from built import DOT, PROGRAMS, ROOT, SAMPLES
 from recipe_commands import WANTED, commands, draw, verdicts
-from recipes_test import RECIPES, RecipesTest, has_command, needs
+from recipes_test import RECIPES, SLOW, RecipesTest, has_command, is_running, needs, waited
 
 FILES = RECIPES / "certify-files"
 
@@ -85,14 +86,34 @@ class Folder(CertifyRecipes):
         told = ["drawings/below/HELD file.WMF: HeldObject", "drawings/text.wmf: Unsupported"]
         self.assertEqual((status, sorted(out.decode().splitlines()), err), (0, told, b""))
 
-    def test_many_files_side_by_side(self):
-        names = [f"{number:04}.wmf" for number in range(1000)]
+    def test_long_lines_of_several_processes(self):
+        # A control character of a name takes six bytes in a line, so each has more than a pipe takes as a whole.
+        folder = "/".join("\1" * 200 for _ in range(4))
+        (self.folder / folder).mkdir(parents=True)
+        names = [f"{number:04}.wmf" for number in range(700)]
         for name in names:
-            (self.folder / name).write_bytes(DOT)
-        status, out, err = self.certified(names, "64", "64", METAPLAY_JOBS="7")
+            (self.folder / folder / name).write_bytes(DOT)
+        status, out, err = self.certified([f"{folder}/{name}" for name in names], "64", "64", METAPLAY_JOBS="7")
         self.assertEqual((status, err), (0, b""))
-        self.assertEqual(sorted(verdicts(out)), names)
+        self.assertGreater(len(min(out.splitlines(), key=len)), 4096)
+        self.assertEqual(sorted(verdicts(out)), [f"{folder}/{name}" for name in names])
         self.assertEqual(sorted(os.listdir(self.folder / "certificates")), [f"{name}.mpc" for name in names])
+
+    def test_an_interrupt_ends_all_processes(self):
+        program, rooms, process = self.folder / "slow", self.folder / "rooms", self.folder / "process"
+        program.write_text(SLOW)
+        program.chmod(0o755)
+        rooms.mkdir()
+        settings = self.settings | {"METAPLAY": str(program), "TMPDIR": str(rooms)}
+        words = [FILES, "certificates", "64", "64"]
+        with subprocess.Popen(words, stdin=subprocess.PIPE, cwd=self.folder, env=settings, start_new_session=True) as running:
+            running.stdin.write(b"dot.wmf\0")
+            running.stdin.close()
+            self.assertTrue(waited(lambda: process.exists() and process.read_text().endswith("\n")))
+            os.killpg(running.pid, signal.SIGINT)
+            self.assertEqual(running.wait(timeout=30), 130)
+        self.assertTrue(waited(lambda: not is_running(int(process.read_text()))))
+        self.assertEqual(list(rooms.iterdir()), [])
 
     def test_no_files(self):
         self.assertEqual(self.certified([], "64", "64"), (0, b"", b""))
@@ -125,7 +146,8 @@ class Folder(CertifyRecipes):
     def test_a_full_disk_and_no_folder(self):
         names = b"dot.wmf\0"
         with open("/dev/full", "wb") as full:
-            ended = subprocess.run([FILES, "certificates", "64", "64"], input=names, stdout=full, stderr=subprocess.DEVNULL, cwd=self.folder, env=self.settings)
+            streams = {"input": names, "stdout": full, "stderr": subprocess.DEVNULL}
+            ended = subprocess.run([FILES, "certificates", "64", "64"], **streams, cwd=self.folder, env=self.settings, check=False)
         self.assertEqual(ended.returncode, 3)
         self.assertEqual(self.certified(["dot.wmf"], "64", "64", TMPDIR="/no folder")[:2], (3, b""))
 
@@ -205,6 +227,13 @@ class Summary(CertifyRecipes):
         odd = f"{TABLE}{len(ODD)} lines couldn't be read\n"
         self.assertEqual(self.summed("lines", "odd"), (1, odd, b""))
         self.assertEqual(self.summed("lines", "no file")[:2], (3, ""))
+
+    def test_the_table_on_the_page(self):
+        page = (ROOT / "docs" / "RECIPES.md").read_text(encoding="utf-8")
+        line, table = page.split("\n$ metaplay info ")[1].split("```")[0].split("\n", 1)
+        words, _, _ = line.partition(" | ")
+        lines = subprocess.run(f"{PROGRAMS[0]} info {words}", shell=True, capture_output=True, cwd=ROOT, check=False).stdout
+        self.assertEqual(self.summed(given=lines), (0, table, b""))
 
     def test_lines_of_the_program(self):
         lines = self.run_words("./metaplay", "info", "--profile", "print", *sorted(map(str, SAMPLES.glob("*.emf"))), "no file")[1]

@@ -123,7 +123,12 @@ class ClusterRecipes(RecipesTest):
         return self.folder / name
 
 
-@needs("parallel", "find", "sort")
+def is_gnu_parallel():
+    """Whether GNU parallel is on the machine. Another program may go by its name."""
+    return bool(shutil.which("parallel")) and b"GNU parallel" in subprocess.run(["parallel", "--version"], capture_output=True, check=False).stdout
+
+
+@unittest.skipUnless(is_gnu_parallel(), "not on this machine: parallel")
 class Parallel(ClusterRecipes):
     """GNU parallel."""
 

@@ -97,7 +97,8 @@ class FixedFirst(RecipesTest):
         for _ in range(2):
             # The second time the fixed files and their certificates are there.
             status, _, err = self.run_words("sh", "-c", fixed)
-            lines = {line["file"].removeprefix("drawings/"): line for line in map(json.loads, (self.folder / "checked.jsonl").read_bytes().splitlines())}
+            lines = map(json.loads, (self.folder / "checked.jsonl").read_bytes().splitlines())
+            lines = {line["file"].removeprefix("drawings/"): line for line in lines}
             accepted = {"ellipse.emf.fixed": True, "dot.wmf.fixed": True, "text.emf": None}
             self.assertEqual((status, {name: line["accepted"] for name, line in lines.items()}, err), (123, accepted, b""))
             self.assertEqual(lines["text.emf"]["error"], TEXT_LINE.decode().strip())

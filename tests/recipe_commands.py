@@ -7,7 +7,7 @@ from built import DOT, ROOT, SAMPLES
 from metafile.scripts import WMF
 from recipes_test import HELD, RECIPES
 
-# A WMF file with text (META_TEXTOUT's neighbour META_EXTTEXTOUT, [MS-WMF] 2.3.3.5), which is rejected.
+# A file that is rejected, since it has text (META_EXTTEXTOUT, [MS-WMF] 2.3.3.5).
 TEXT = WMF.file([WMF.record(0x0A32)], 8, 0)
 
 # The files of the folder `drawings`, and the verdict of each.

@@ -12,7 +12,8 @@ import threading
 import unittest
 from collections import Counter
 
-from built import DOT, ROOT
+from built import DOT, ROOT, SAMPLES
+from metafile.fields import u32
 from recipe_commands import DRAWINGS, commands, draw
 from recipes_test import RECIPES, RecipesTest, has_command, needs, png_pixels, waited
 
@@ -116,6 +117,22 @@ class Report(ReportRecipe):
         self.assertIn(b"What to do", self.run_words(*command)[1])
         self.assertEqual(sorted(path.name for path in recipes.iterdir()), sorted(path.name for path in RECIPES.iterdir()))
 
+    def test_each_fault_of_a_file_and_each_note_has_its_text(self):
+        asked = "import pathlib, report_texts; texts = report_texts.Texts.read(pathlib.Path()); print(len(texts.faults), *sorted(texts.notes))"
+        ended = subprocess.run(["/usr/bin/python3", "-B", "-c", asked], cwd=RECIPES, capture_output=True, text=True, check=True)
+        notes = "AfterEnd DashedPen EmfPlus Isotropic PlaceableChecksum PlaceableFields SizeField Skipped WidePen"
+        self.assertEqual(ended.stdout, f"35 {notes}\n")
+
+    def test_the_program_and_the_title_of_a_picture(self):
+        text = "A <program>\0A title\0\0".encode("utf-16-le")
+        data = (SAMPLES / "polygons.emf").read_bytes()
+        size = int.from_bytes(data[4:8], "little")
+        # The header's sizes, and where its description is ([MS-EMF] 2.2.9).
+        head = data[:4] + u32(size + len(text)) + data[8:48] + u32(len(data) + len(text)) + data[52:60] + u32(len(text) // 2, size) + data[68:size]
+        (self.folder / "drawings" / "described.emf").write_bytes(head + text + data[size:])
+        parts = Parts(self.page())
+        self.assertEqual([told for told in parts.all("div") if told.startswith(("Program", "Title"))], ["ProgramA <program>", "TitleA title"])
+
     def test_pictures_are_those_of_show(self):
         sources = [it["src"] for tag, it in Parts(self.page("--side", "40")).tags if tag == "img"]
         told = Counter(png_pixels(base64.b64decode(source.removeprefix("data:image/png;base64,"))) for source in sources)
@@ -165,11 +182,12 @@ class Report(ReportRecipe):
         self.assertIn("no-program", self.run_words(RECIPES / "report", "drawings", METAPLAY="no-program")[2].decode())
 
     def test_wrong_usage(self):
-        for words in ([], ["a", "b"], ["--profile", "paper", "a"], ["--allow", "held-deletion", "a"], ["--seconds", "0", "a"], ["--side", "1025", "a"]):
-            self.assertEqual(self.run_words(RECIPES / "report", *words)[:2], (2, b""), words)
+        for words in ("", "a b", "--profile paper a", "--allow held-deletion a", "--seconds 0 a", "--side 1025 a"):
+            self.assertEqual(self.run_words(RECIPES / "report", *words.split())[:2], (2, b""), words)
         self.assertEqual(self.run_words(RECIPES / "report", "no folder"), (3, b"", b"report: not a folder: no folder\n"))
         with open("/dev/full", "wb") as full:
-            ended = subprocess.run([RECIPES / "report", "drawings"], stdout=full, stderr=subprocess.DEVNULL, cwd=self.folder, env=self.settings)
+            streams = {"stdout": full, "stderr": subprocess.DEVNULL}
+            ended = subprocess.run([RECIPES / "report", "drawings"], **streams, cwd=self.folder, env=self.settings, check=False)
         self.assertEqual(ended.returncode, 3)
 
 

@@ -57,7 +57,7 @@ class Texts:
             if len(cells) == 6 and cells[0].isdigit()
         }
         notes = pages["FORMATS.md"].partition("\n## Notes\n")[2].partition("\n## ")[0]
-        told = {cells[0].strip("`"): inline(cells[1]) for cells in rows(notes) if len(cells) == 2}
+        told = {cells[0].strip("`"): inline(cells[1]) for cells in rows(notes) if cells[0].startswith("`")}
         return Texts(faults, told)
 
 
