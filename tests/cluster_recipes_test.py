@@ -132,10 +132,15 @@ def is_gnu_parallel():
 class Parallel(ClusterRecipes):
     """GNU parallel."""
 
+    def setUp(self):
+        super().setUp()
+        names, self.here, self.elsewhere = commands(PARALLEL)
+        self.run_words("sh", "-c", names)
+
     def test_one_machine(self):
         for _ in range(2):
             # The second time all jobs are done.
-            self.run_words("sh", "-c", commands(PARALLEL)[0])
+            self.run_words("sh", "-c", self.here)
             self.assertEqual(verdicts((self.folder / "certified.jsonl").read_bytes()), WANTED)
         self.assertEqual(len(list((self.folder / "certificates").iterdir())), 4)
 
@@ -145,7 +150,7 @@ class Parallel(ClusterRecipes):
         stops = self.folder / "metaplay"
         stops.write_text('#!/bin/sh\ncase $* in *polygons*) [ -e go ] || { touch waits; exec sleep 20; } ;; esac\nexec ./program "$@"\n')
         stops.chmod(0o755)
-        command = commands(PARALLEL)[0].replace("-n 200", "-n 1 -j 2")
+        command = self.here.replace("-n 200", "-n 1 -j 2")
         with subprocess.Popen(["sh", "-c", command], cwd=self.folder, env=self.settings, start_new_session=True) as running:
             self.assertTrue(waited((self.folder / "waits").exists))
             self.assertTrue(waited(lambda: len((self.folder / "certify.log").read_text().splitlines()) > 3))
@@ -170,7 +175,7 @@ class Parallel(ClusterRecipes):
         self.serve(server("sshd"), "-D", "-e", "-f", sshd)
         self.assertTrue(waited(lambda: answers(port)), self.log("sshd"))
         (self.folder / "machines").write_text(f"2/ssh -F {ssh} loopback\n")
-        command = commands(PARALLEL)[1].replace("-n 200", "-n 2")
+        command = self.elsewhere.replace("-n 200", "-n 2")
         ended = self.run_words("sh", "-c", command)
         self.assertEqual(verdicts((self.folder / "certified.jsonl").read_bytes()), WANTED, (ended, self.log("sshd")))
         hosts = {line.split("\t")[1] for line in (self.folder / "certify.log").read_text().splitlines()[1:]}
@@ -183,6 +188,7 @@ class Slurm(ClusterRecipes):
 
     def setUp(self):
         super().setUp()
+        self.run_words("sh", "-c", commands(PARALLEL)[0])
         self.array, self.joined = (block.replace("1-10", "1-3").replace("certify-part 10", "certify-part 3") for block in commands("Slurm"))
 
     def test_parts_without_slurm(self):
