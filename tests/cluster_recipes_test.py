@@ -148,13 +148,16 @@ class Parallel(ClusterRecipes):
         # One file a job, and a program that waits at one of them until it is let go.
         (self.folder / "metaplay").rename(self.folder / "program")
         stops = self.folder / "metaplay"
-        stops.write_text('#!/bin/sh\ncase $* in *polygons*) [ -e go ] || { touch waits; exec sleep 20; } ;; esac\nexec ./program "$@"\n')
+        stops.write_text('#!/bin/sh\ncase $* in *polygons*) [ -e go ] || { echo $$ >waits; exec sleep 60; } ;; esac\nexec ./program "$@"\n')
         stops.chmod(0o755)
         command = self.here.replace("-n 200", "-n 1 -j 2")
         with subprocess.Popen(["sh", "-c", command], cwd=self.folder, env=self.settings, start_new_session=True) as running:
-            self.assertTrue(waited((self.folder / "waits").exists))
+            waits = self.folder / "waits"
+            self.assertTrue(waited(lambda: waits.exists() and waits.read_text().endswith("\n")))
             self.assertTrue(waited(lambda: len((self.folder / "certify.log").read_text().splitlines()) > 3))
             os.killpg(running.pid, signal.SIGKILL)
+            # A job has a group of its own.
+            os.kill(int(waits.read_text()), signal.SIGKILL)
         with contextlib.suppress(FileNotFoundError):
             self.assertNotIn("drawings/below/polygons.emf", verdicts((self.folder / "certified.jsonl").read_bytes()))
         (self.folder / "go").touch()
