@@ -169,7 +169,7 @@ class Report(ReportRecipe):
         self.stub("show", "echo $$ >>processes; exec sleep 60")
         parts = Parts(self.page("--seconds", "0.5"))
         self.assertEqual(parts.all("p").count("The picture was stopped after 0.5 seconds."), 4)
-        self.assertIn("4 pictures stopped, because they took too long.", parts.all("p"))
+        self.assertIn("Pictures that were stopped, because they took too long: 4", parts.all("p"))
         for process in (self.folder / "processes").read_text().split():
             self.assertTrue(waited(lambda: not pathlib.Path(f"/proc/{process}").exists()))
 

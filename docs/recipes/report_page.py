@@ -90,11 +90,6 @@ def escaped(sign: str) -> str:
     return sign.encode("unicode_escape", "replace").decode()
 
 
-def counted(number: int, noun: str) -> str:
-    """A number of things."""
-    return f"{number:,} {noun}{'' if number == 1 else 's'}"
-
-
 def fault_of(name: str, record: str | None) -> str:
     """A fault with the name of its record, as HTML."""
     return html.escape(shown(name)) + (f" <code>{html.escape(record)}</code>" if record else "")
@@ -187,7 +182,7 @@ def remarks(page: Page) -> Iterator[str]:
     """What the page says before its files."""
     stopped = sum(1 for entry in page.entries if entry.picture and entry.picture.is_stopped)
     if stopped:
-        yield f"<p>{counted(stopped, 'picture')} stopped, because they took too long.</p>\n"
+        yield f"<p>Pictures that were stopped, because they took too long: <b>{stopped:,}</b></p>\n"
     for name in page.unread:
         yield f'<p class="problem">This folder can\'t be read: {html.escape(name)}</p>\n'
     reasons = Counter(fault_of(entry.reason, entry.record) for entry in page.entries if entry.reason)
