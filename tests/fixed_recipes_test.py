@@ -3,6 +3,7 @@
 import json
 import os
 import pathlib
+import shutil
 import signal
 import subprocess
 import unittest
@@ -11,7 +12,8 @@ from built import DOT, ROOT, SAMPLES
 from metafile.fields import i32, u32
 from metafile.files import emf_record
 from metafile.scripts import EMF
-from recipes_test import HELD_LINE, RECIPES, SLOW, RecipesTest, is_running, needs, png_pixels, waited
+from recipe_commands import commands
+from recipes_test import HELD_LINE, RECIPES, SLOW, RecipesTest, has_command, is_running, needs, png_pixels, waited
 
 # A file that is rejected and can be fixed: an ellipse (EMR_ELLIPSE, [MS-EMF] 2.3.5.5), at record 1.
 ELLIPSE = EMF.file([emf_record(42, i32(1, 1, 6, 6))], 8, 1)
@@ -83,30 +85,37 @@ class FixedFirst(RecipesTest):
         told = self.run_words(*job, "metaplay-fix=yes", "ellipse.emf", **settings)
         self.assertEqual(told, (1, b"", f"ERROR: {self.folder / 'metaplay-fix'} is missing\n".encode()))
 
-    @needs("jq")
+    @needs("xargs", "find")
     def test_a_folder(self):
-        words = [RECIPES / "check-file", "64", "64", "--profile", "print"]
+        if not has_command("certify"):
+            self.skipTest("the program has no command certify")
+        _, fixed = commands("One file, and fixing a folder first")
+        drawings = self.folder / "drawings"
+        drawings.mkdir()
+        for name in ("ellipse.emf", "text.emf", "dot.wmf"):
+            shutil.copy(self.folder / name, drawings)
         for _ in range(2):
-            # The second time the fixed file and its certificate are there.
-            status, out, err = self.run_words(*words, "ellipse.emf", **self.fixing)
-            report = json.loads(out)
-            self.assertEqual((status, report["file"], report["accepted"], err), (0, "ellipse.emf", True, b""))
-            self.assertTrue((self.folder / "ellipse.emf.fixed.mpc").exists())
+            # The second time the fixed files and their certificates are there.
+            status, _, err = self.run_words("sh", "-c", fixed)
+            lines = map(json.loads, (self.folder / "checked.jsonl").read_bytes().splitlines())
+            lines = {line["file"].removeprefix("drawings/"): line for line in lines}
+            accepted = {"ellipse.emf.fixed": True, "dot.wmf.fixed": True, "text.emf": None}
+            self.assertEqual((status, {name: line["accepted"] for name, line in lines.items()}, err), (123, accepted, b""))
+            self.assertEqual(lines["text.emf"]["error"], TEXT_LINE.decode().strip())
+            self.assertTrue((drawings / "ellipse.emf.fixed.mpc").exists())
         # What needs nothing stays as it is.
-        self.assertEqual(self.run_words(*words, "dot.wmf", **self.fixing)[0], 0)
-        self.assertEqual((self.folder / "dot.wmf.fixed").read_bytes(), DOT)
-        status, out, _ = self.run_words(*words, "text.emf", **self.fixing)
-        said = TEXT_LINE.decode().strip().partition(": ")[2]
-        self.assertEqual((status, json.loads(out)), (1, {"accepted": False, "file": "text.emf", "said": said}))
-        # A certificate of what was fixed before is rejected by the report.
-        (self.folder / "ellipse.emf").write_bytes((SAMPLES / "polygons.emf").read_bytes())
-        status, out, _ = self.run_words(*words, "ellipse.emf", **self.fixing)
-        self.assertEqual((status, json.loads(out)["accepted"]), (1, False))
+        self.assertEqual((drawings / "dot.wmf.fixed").read_bytes(), DOT)
+        # A certificate of what was fixed before is left, unless it is to be replaced.
+        (drawings / "ellipse.emf").write_bytes((SAMPLES / "polygons.emf").read_bytes())
+        words = [RECIPES / "check-file", "2400", "2400", "--profile", "print"]
+        status, out, _ = self.run_words(*words, "drawings/ellipse.emf", **self.fixing)
+        self.assertEqual((status, json.loads(out)["error"]), (3, "the certificate's name is taken"))
+        self.assertEqual(self.run_words(*words, "--replace", "drawings/ellipse.emf", **self.fixing)[0], 0)
         # A fixed file that isn't a plain file is neither read nor written.
-        (self.folder / "dot.wmf.fixed").unlink()
-        os.mkfifo(self.folder / "dot.wmf.fixed")
-        status, out, _ = self.run_words(*words, "dot.wmf", **self.fixing)
-        self.assertEqual((status, json.loads(out)["said"]), (1, "dot.wmf.fixed is no plain file"))
+        (drawings / "dot.wmf.fixed").unlink()
+        os.mkfifo(drawings / "dot.wmf.fixed")
+        status, out, _ = self.run_words(*words, "drawings/dot.wmf", **self.fixing)
+        self.assertEqual((status, json.loads(out)["error"]), (3, "drawings/dot.wmf.fixed is not a plain file"))
 
     @needs("git", "xargs")
     def test_a_hook_of_git(self):
