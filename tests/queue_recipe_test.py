@@ -16,6 +16,9 @@ FILTER = RECIPES / "metaplaytopdf"
 # The pixels of the dot at 4 by 4.
 DOT_PIXELS = DOT_IMAGE[-48:]
 
+# A program that takes long, leaves its process id, and has something to do before it ends.
+ENDING = "#!/bin/sh\ntrap 'echo >ended; exit' TERM\necho $$ >process\nwhile :; do sleep 0.1; done\n"
+
 
 def pdf_page(data):
     """What a PDF of one image has: the box of its page, what that shows, the sides of the image, and its pixels. Each object is where the table says, and
@@ -70,6 +73,12 @@ class Pages(QueueTest):
         for name in ("stdin", "-x"):
             (self.folder / name).write_bytes(DOT)
             self.assertEqual(self.page("metaplay-side=4", name), wanted)
+
+    def test_the_picture_is_that_under_print(self):
+        words = ["metaplay", "show", SAMPLES / "page.emf", "128", "128", "--profile"]
+        core, fine = (self.run_words(*words, profile)[1].split(b"\n", 3)[3] for profile in ("core", "print"))
+        _, _, sides, pixels = self.page("metaplay-side=128", str(SAMPLES / "page.emf"))
+        self.assertEqual((sides, pixels == fine, pixels == core), ((128, 128), True, False))
 
     def test_a_page_may_have_other_proportions_than_the_units(self):
         # An EMF of 4 by 4 pixels, on a device with 4 pixels to a millimetre across and 8 down.
@@ -163,17 +172,18 @@ class Errors(QueueTest):
     def test_a_signal_ends_it_and_the_program(self):
         rooms, process = self.folder / "rooms", self.folder / "process"
         rooms.mkdir()
-        settings = self.settings | self.program(SLOW) | {"TMPDIR": str(rooms)}
+        settings = self.settings | self.program(ENDING) | {"TMPDIR": str(rooms)}
         words = [FILTER, "7", "somebody", "a title", "1", "", "dot.wmf"]
         for number in (signal.SIGTERM, signal.SIGINT, signal.SIGHUP):
-            process.unlink(missing_ok=True)
+            for path in (process, self.folder / "ended"):
+                path.unlink(missing_ok=True)
             with subprocess.Popen(words, cwd=self.folder, env=settings, start_new_session=True) as running:
                 self.assertTrue(waited(lambda: process.exists() and process.read_text().endswith("\n")))
                 self.assertEqual(len(list(rooms.iterdir())), 1)
                 running.send_signal(number)
                 self.assertEqual(running.wait(timeout=30), 128 + number)
             self.assertFalse(is_running(int(process.read_text())))
-            self.assertEqual(list(rooms.iterdir()), [])
+            self.assertEqual((list(rooms.iterdir()), (self.folder / "ended").exists()), ([], True))
 
     def test_a_program_that_goes_on_after_a_signal_is_killed(self):
         settings = self.program("#!/bin/sh\ntrap '' TERM\necho $$ >process\nwhile :; do sleep 0.1; done\n")
