@@ -185,6 +185,10 @@ class Errors(QueueTest):
             self.assertFalse(is_running(int(process.read_text())))
             self.assertEqual((list(rooms.iterdir()), (self.folder / "ended").exists()), ([], True))
 
+    def test_a_program_gets_each_signal(self):
+        text = "#!/usr/bin/python3 -I\nimport signal, sys\nsys.exit(str(signal.pthread_sigmask(signal.SIG_BLOCK, [])))\n"
+        self.assertEqual(self.job("metaplay-size=page", "dot.wmf", **self.program(text)), (1, b"", b"ERROR: set()\n"))
+
     def test_a_program_that_goes_on_after_a_signal_is_killed(self):
         settings = self.program("#!/bin/sh\ntrap '' TERM\necho $$ >process\nwhile :; do sleep 0.1; done\n")
         told = self.job("metaplay-seconds=1", "dot.wmf", **settings)
