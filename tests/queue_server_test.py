@@ -74,6 +74,12 @@ class RealServer(unittest.TestCase):
         for size, options in [((700, 350), ["metaplay-size=page"]), ((4000, 2000), [])]:
             self.assert_printed(red_file(*size), options, (1422, 2843))
 
+    def test_an_option_of_a_job_precedes_that_of_the_queue(self):
+        self.assertTrue(self.server.call("lpadmin", "-p", "keep", "-o", "metaplay-size-default=page")[0])
+        self.addCleanup(self.server.call, "lpadmin", "-p", "keep", "-R", "metaplay-size-default")
+        self.assert_printed(red_file(700, 350), [], (1422, 2843))
+        self.assert_printed(red_file(700, 350), ["metaplay-size=own"], (350, 700))
+
     def assert_stopped(self, job, said):
         """A job is stopped with this error, in the list and in the log, and no other program complains."""
         shown = [f"Status: {said}", "Alerts: job-completed-with-errors"]
