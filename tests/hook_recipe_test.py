@@ -94,10 +94,13 @@ class Commits(HookTest):
         self.assertEqual((self.hook(), self.hook("--all")), ((1, told), (1, told)))
         self.git("rm", "-q", "--cached", "b.WMF")
         self.assertEqual(self.hook(), (1, rejected("a.wmf", "c.Emf")))
-        self.assertEqual(self.hook("f.wmf", "dot.wmf", "no\x1bfile", "a.wmf", "no file.emf"), (
-            1,
-            rejected("f.wmf") + b"pre-commit: cannot read: no?file\n" + rejected("a.wmf") + b"pre-commit: cannot read: no file.emf\n",
-        ))
+        self.assertEqual(
+            self.hook("f.wmf", "dot.wmf", "no\x1bfile", "a.wmf", "no file.emf"),
+            (
+                1,
+                rejected("f.wmf") + b"pre-commit: cannot read: no?file\n" + rejected("a.wmf") + b"pre-commit: cannot read: no file.emf\n",
+            ),
+        )
         # What is in the index counts.
         shutil.copy(self.folder / "dot.wmf", self.folder / "a.wmf")
         self.assertEqual(self.hook(), (1, rejected("a.wmf", "c.Emf")))

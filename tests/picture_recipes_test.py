@@ -85,7 +85,7 @@ class ToPng(Pictures):
         self.assertEqual(self.run_words(TO_PNG, "page.emf", "9" * 30, "65")[:2], (2, b""))
 
     def test_a_name_is_no_frame(self):
-        for name in ('"frame":[1,1].emf', '"frame":[1,1]', "\\", "stdin.emf", "a\n\"frame\":[1,1]"):
+        for name in ('"frame":[1,1].emf', '"frame":[1,1]', "\\", "stdin.emf", 'a\n"frame":[1,1]'):
             (self.folder / name).write_bytes(PAGE)
             self.assertEqual((self.profile(name, "64", "64"), self.profile(name, "65", "65")), ("core", "print"))
 
