@@ -9,7 +9,7 @@
 . "$root/launcher/fixup.sh"
 
 # The recipe that has the path of the program in it.
-filter=$root/docs/recipes/metaplaytopnm
+filter=$root/docs/recipes/metaplaytopdf
 
 # Calls a function for each file to install, with its mode, where it is, and its place below the prefix.
 each_file() {
@@ -22,7 +22,7 @@ each_file() {
         if [ -x "$recipe" ]; then mode=755; else mode=644; fi
         [ "$recipe" = "$filter" ] || "$1" "$mode" "$recipe" "share/metaplay/recipes/${recipe##*/}"
     done
-    "$1" 755 "$linked/metaplaytopnm" share/metaplay/recipes/metaplaytopnm
+    "$1" 755 "$linked/metaplaytopdf" share/metaplay/recipes/metaplaytopdf
     for page in RECIPES.md FAULTS.md FIXUP.md FORMATS.md PIXELS.md certify.schema.json fixup.png info.schema.json; do
         "$1" 644 "$root/docs/$page" "share/doc/metaplay/$page"
     done
@@ -104,7 +104,7 @@ install_all() {
     is_free link - bin/metaplay-fixup
     take_folder
     link_library "$linked" "$prefix" "$built" || exit 3
-    sed "s|/usr/local/bin/metaplay|$prefix/bin/metaplay|" "$filter" >"$linked/metaplaytopnm" || exit 3
+    sed "s|/usr/local/bin/metaplay|$prefix/bin/metaplay|" "$filter" >"$linked/metaplaytopdf" || exit 3
     each_file install_one
     ln -sfnT -- "libmetaplay.so.$interface" "$place/lib/libmetaplay.so" || exit 3
     install_fixup

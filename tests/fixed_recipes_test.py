@@ -12,6 +12,7 @@ from built import DOT, ROOT, SAMPLES
 from metafile.fields import i32, u32
 from metafile.files import emf_record
 from metafile.scripts import EMF
+from queue_recipe_test import pdf_page, shown
 from recipe_commands import commands
 from recipes_test import HELD_LINE, RECIPES, SLOW, RecipesTest, has_command, is_running, needs, png_pixels, waited
 
@@ -71,14 +72,16 @@ class FixedFirst(RecipesTest):
         self.assertEqual(self.run_words(RECIPES / "to-png", "held file.wmf", "16", "16", *rules), allowed)
 
     def test_the_filter_of_cups(self):
-        job = [RECIPES / "metaplaytopnm", "7", "somebody", "a title", "1"]
+        job = [RECIPES / "metaplaytopdf", "7", "somebody", "a title", "1"]
         settings = {"METAPLAY": str(self.folder / "metaplay")}
         size = "metaplay-side=16"
         self.assertEqual(self.run_words(*job, size, "ellipse.emf", **settings), (1, b"", b"ERROR: " + ELLIPSE_LINE))
         self.assertEqual(self.run_words(*job, f"{size} metaplay-fix=no", "ellipse.emf", **settings), (1, b"", b"ERROR: " + ELLIPSE_LINE))
-        image = (0, self.fixed_image("16"), b"")
-        self.assertEqual(self.run_words(*job, f"{size} metaplay-fix=yes", "ellipse.emf", **settings), image)
-        self.assertEqual(self.run_words(*job, f"metaplay-fix=yes {size}", given=ELLIPSE, **settings), image)
+        # The frame has 8 by 8 units, each 25 hundredths of a millimetre.
+        page = shown("5.669", "5.669", (16, 16), self.fixed_image("16")[13:])
+        for words, given in [((f"{size} metaplay-fix=yes", "ellipse.emf"), b""), ((f"metaplay-fix=yes {size}",), ELLIPSE)]:
+            status, out, err = self.run_words(*job, *words, given=given, **settings)
+            self.assertEqual((status, pdf_page(out), err), (0, page, b""))
         self.assertEqual(self.run_words(*job, "metaplay-fix=yes", "text.emf", **settings), (1, b"", b"ERROR: " + TEXT_LINE))
         self.assertEqual(self.run_words(*job, "metaplay-fix=2", "text.emf", **settings), (1, b"", b"ERROR: metaplay-fix is yes or no\n"))
         (self.folder / "metaplay-fix").unlink()
@@ -143,7 +146,7 @@ class FixedFirst(RecipesTest):
         program.chmod(0o755)
         rooms.mkdir()
         settings = self.settings | {"METAPLAY": str(self.folder / "metaplay"), "METAPLAY_FIXUP": str(program), "TMPDIR": str(rooms)}
-        for words in (["metaplaytopnm", "7", "somebody", "a title", "1", "metaplay-fix=yes", "dot.wmf"], ["to-png", "dot.wmf", "4", "4"]):
+        for words in (["metaplaytopdf", "7", "somebody", "a title", "1", "metaplay-fix=yes", "dot.wmf"], ["to-png", "dot.wmf", "4", "4"]):
             process.unlink(missing_ok=True)
             with subprocess.Popen([RECIPES / words[0], *words[1:]], cwd=self.folder, env=settings, start_new_session=True) as running:
                 self.assertTrue(waited(lambda: process.exists() and process.read_text().endswith("\n")))
@@ -156,7 +159,7 @@ class FixedFirst(RecipesTest):
         program = self.folder / "slow"
         program.write_text(SLOW)
         program.chmod(0o755)
-        job = [RECIPES / "metaplaytopnm", "7", "somebody", "a title", "1", "metaplay-fix=yes metaplay-seconds=1", "dot.wmf"]
+        job = [RECIPES / "metaplaytopdf", "7", "somebody", "a title", "1", "metaplay-fix=yes metaplay-seconds=1", "dot.wmf"]
         told = self.run_words(*job, METAPLAY=str(self.folder / "metaplay"), METAPLAY_FIXUP=str(program))
         self.assertEqual(told, (1, b"", b"ERROR: the file takes more than 1 seconds\n"))
 

@@ -1,4 +1,4 @@
-"""The sources of the fix-up, of its tests and of its manual page are formatted, without a warning, and rightly typed."""
+"""The sources of the fix-up, of its tests, of its manual page and of the recipes in Python are formatted, without a warning, and rightly typed."""
 
 import os
 import subprocess
@@ -9,7 +9,11 @@ from packages import PYTHON
 from run import FIXUP
 
 # Where the sources are, from their folder.
-SOURCES = ["metaplay-fixup", "metaplay_fixup", "metaplay_verify", "tests", "../packaging/manual_texts.py", "../packaging/make_fixup_manual.py"]
+SOURCES = [
+    *["metaplay-fixup", "metaplay_fixup", "metaplay_verify", "tests"],
+    *["../packaging/manual_texts.py", "../packaging/make_fixup_manual.py"],
+    "../docs/recipes/metaplaytopdf",
+]
 
 # The length of a line is that of fixup/.flake8.
 LENGTH = "120"
@@ -34,7 +38,8 @@ class Style(unittest.TestCase):
         self.judge("flake8")
 
     def test_mypy_finds_no_wrong_type(self):
-        self.judge("mypy", "--strict", "--cache-dir", os.devnull)
+        # Each program is a module of its own, not the main one.
+        self.judge("mypy", "--strict", "--scripts-are-modules", "--cache-dir", os.devnull)
 
 
 if __name__ == "__main__":

@@ -81,8 +81,8 @@ class Installation(unittest.TestCase):
 
     def test_the_filter_runs_the_installed_program(self):
         self.assertEqual(launched("install", "/a b", DESTDIR=str(self.folder)), Answer(0, b"", b""))
-        text = (self.folder / "a b/share/metaplay/recipes/metaplaytopnm").read_text()
-        self.assertIn("\nmetaplay=${METAPLAY:-/a b/bin/metaplay}\n", text)
+        text = (self.folder / "a b/share/metaplay/recipes/metaplaytopdf").read_text()
+        self.assertIn('\nPROGRAM = "/a b/bin/metaplay"\n', text)
 
     def test_a_folder_in_place_of_a_file_is_status_3(self):
         for place in ("bin/metaplay", "lib/libmetaplay.so"):
