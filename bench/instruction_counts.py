@@ -9,20 +9,26 @@ import subprocess
 import tempfile
 from concurrent.futures import ThreadPoolExecutor
 
+import certificate_fault_files
 import choice_files
 import clipped_files
 import edge_files
+import fault_files
 import fill_files
+import head_fault_files
 import image_files
 import instruction_files
 import large_files
 import mixed_files
+import nib_files
+import packed_files
 import paint_files
 import pixel_files
 import record_files
 import refused_files
 import row_files
 import slip_files
+import state_files
 import stroke_files
 import told_files
 import wide_stroke_files
@@ -50,14 +56,20 @@ MODULES = [
 # The files whose instructions are counted under both profiles.
 BOTH = {name: made for module in MODULES for name, made in module.FILES.items()}
 
-# Each of these under the core profile and under the print profile, those whose work is in parts of a unit, those that are rejected early, and drawings
+# Drawings and states by chance, of which each sort is a small part of the work.
+CHANCE = mixed_files.FILES | nib_files.FILES | packed_files.FILES | state_files.FILES
+
+# What has its first fault at the beginning.
+FAULTS = fault_files.FILES | head_fault_files.FILES | certificate_fault_files.FILES
+
+# Each of these under the core profile and under the print profile, those whose work is in parts of a unit, those that are rejected early, and those
 # by chance.
-FILES = BOTH | {named_print(name): under_print(made) for name, made in BOTH.items()} | PARTS | refused_files.FILES | mixed_files.FILES
+FILES = BOTH | {named_print(name): under_print(made) for name, made in BOTH.items()} | PARTS | refused_files.FILES | FAULTS | CHANCE
 
 RECORD = ROOT / "bench" / "instructions.json"
 
-# How many times the instructions on record a file may take at most; and one of drawings by chance, of which each is a small part of the work.
-MOST, MOST_MIXED = 1.02, 1.005
+# How many times the instructions on record a file may take at most; and one by chance.
+MOST, MOST_CHANCE = 1.02, 1.005
 
 
 class Uncounted(Exception):
@@ -113,4 +125,4 @@ def is_within(taken, recorded, most=MOST):
 
 def most_of(name):
     """How many times the instructions on record a file may take at most."""
-    return MOST_MIXED if name in mixed_files.FILES else MOST
+    return MOST_CHANCE if name in CHANCE else MOST

@@ -5,211 +5,26 @@ import functools
 import random
 from collections.abc import Callable, Iterator
 
-from instruction_files import Counted, noise
+from chance import Sort, played
+from instruction_files import Counted
 from print_files import PRINT
-from slip_files import listed
-from writers import EMF, MASKED, PATCOPY, PATINVERT, SRCCOPY
+from writers import EMF
 
-# How many files there are, how many sorts of drawings are in each, about how many instructions each sort takes, and its most drawings.
-FILES_MADE, SORTS, WORK, MOST_DRAWINGS = 180, 12, 400_000, 400
+# How many files there are, and how many sorts of drawings are in each.
+FILES_MADE, SORTS = 180, 12
 
 # The surfaces, and how they are played. On those of more than 2,097,152 pixels a mask has a part of the rows.
 SURFACES = [(1024, 256), (256, 1024), (4096, 64), (64, 4096), (16, 8192), (8192, 16), (333, 777), (1000, 1000), (2048, 500), (7, 3000), (1023, 511), (2050, 1100)]
 WAYS = ["show", "bands", "whole", "show", "over"]
-
-NIBS = [2, 3, 4, 5, 9, 17, 33, 40, 64, 65, 100, 300, 2000]
-
-# Columns that a line goes to the side for each row, in tenths.
-SLOPES = [0, 1, 3, 9, 10, 11, 20, 30, 40, 50, 80, 160, 320, 1000]
-
-BLACKNESS, WHITENESS, INVERSION, SRCINVERT = 0x00000042, 0x00FF0062, 0x00550009, 0x00660046
-
-# Ternary raster operations without a bitmap, and with one.
-PATTERNED = [PATCOPY, PATINVERT, BLACKNESS, WHITENESS, INVERSION, 0x00A000C9]
-SOURCED = [SRCCOPY, SRCCOPY, SRCINVERT, MASKED, 0x008800C6]
-
-DEPTHS = [1, 4, 8, 16, 24, 32]
-
-Box = tuple[int, int, int, int]
-
-# Records, and about how many instructions they take.
-Made = tuple[list[bytes], int]
-
-
-class Sort:
-    """Drawings of one sort on a surface: by chance, but for what they have in common."""
-
-    def __init__(self, chance: random.Random, width: int, height: int) -> None:
-        self.chance, self.width, self.height = chance, width, height
-        self.longest = width + height
-        self.many = chance.choice([1, 2, 3, 7, 15, 16, 17, 40, 200, 1_100])
-        self.side = chance.choice([3, 8, 20, 60])
-        self.bits = str(noise(self.side, chance.choice(DEPTHS)))
-        self.operations = chance.choice(PATTERNED), chance.choice(SOURCED)
-        self.nib = chance.choice([0, 1, chance.choice(NIBS)])
-        hatched = f"hatched_brush 1 {chance.randrange(6)} 0x8040"
-        self.brush, self.brush_made = chance.choice([("", "null_brush 1"), ("solid", "solid_brush 1 0x206040"), ("other", hatched), ("other", "")])
-
-    def box(self) -> Box:
-        """A box by chance: all of the surface, a strip, small or large, on it, across its edge or beside it."""
-        chance, width, height = self.chance, self.width, self.height
-        across = chance.choice([width, chance.randrange(1, 21), chance.randrange(1, 21), 1 + width // chance.randrange(1, 9)])
-        down = chance.choice([height, chance.randrange(1, 21), chance.randrange(1, 21), 1 + height // chance.randrange(1, 9)])
-        left, top = chance.randrange(-across // 2, width), chance.randrange(-down // 2, height)
-        if across >= width:
-            left = chance.choice([0, 0, -5])
-        if down >= height:
-            top = chance.choice([0, 0, -5])
-        return left, top, left + across, top + down
-
-    def seen(self, box: Box) -> tuple[int, int]:
-        """How many columns and rows of a box the surface has."""
-        return max(0, min(box[2], self.width) - max(box[0], 0)), max(0, min(box[3], self.height) - max(box[1], 0))
-
-    def line(self) -> tuple[list[int], int]:
-        """The ends of a line by chance, and its length."""
-        chance = self.chance
-        down = chance.choice([chance.randrange(1, 10), chance.randrange(1, 40), chance.randrange(1, 3 * self.height)])
-        side = chance.choice((-1, 1)) * down * chance.choice(SLOPES) // 10
-        if chance.random() < 0.2:
-            side, down = chance.choice([side, chance.randrange(-2 * self.width, 2 * self.width)]), chance.choice([0, 0, 1, 2])
-        left, top = chance.randrange(self.width), chance.randrange(self.height)
-        ends = [left, top, left + side, top + chance.choice((-1, 1)) * down]
-        return [max(-30_000, min(30_000, it)) for it in ends], abs(side) + down
-
-    def places(self, count: int, near: bool) -> list[int]:
-        """So many places by chance: anywhere around the surface, or one near the other."""
-        chance = self.chance
-        if near:
-            left, top = chance.randrange(self.width), chance.randrange(self.height)
-            return [part for _ in range(count) for part in (left + chance.randrange(30), top + chance.randrange(30))]
-        left, top = self.width // 4, self.height // 4
-        return [part for _ in range(count) for part in (chance.randrange(-left, self.width + left), chance.randrange(-top, self.height + top))]
-
-    def filling(self, across: int, down: int) -> int:
-        """About how many instructions it takes to fill so many columns and rows."""
-        pixels = across * down
-        return {"": 0, "solid": down * 15 + pixels // 4, "other": down * 60 + pixels * 5}[self.brush]
-
-    def stroking(self, lines: int, length: int) -> int:
-        """About how many instructions it takes to stroke so many lines of this length together."""
-        if self.nib < 2:
-            return lines * 80 + self.nib * (lines * 70 + length * 15)
-        covered = min(self.width * self.height, (length + self.nib * lines) * self.nib)
-        return 3_000 + lines * 400 + length * 15 + covered * 2
-
-    def rectangle(self) -> Made:
-        """A rectangle."""
-        box = self.box()
-        across, down = self.seen(box)
-        return [EMF.step("rectangle", *box)], 300 + self.filling(across, down) + self.stroking(4, 2 * (across + down))
-
-    def pattern(self) -> Made:
-        """A blit without a bitmap."""
-        box = self.box()
-        across, down = self.seen(box)
-        work = 300 + max(self.filling(across, down), down * 15 + across * down // 2)
-        return [EMF.step("pat_blt", self.operations[0], box[0], box[1], box[2] - box[0], box[3] - box[1])], work
-
-    def bitmap(self) -> Made:
-        """A stretched bitmap."""
-        box = self.box()
-        across, down = self.seen(box)
-        numbers = [box[0], box[1], box[2] - box[0], box[3] - box[1], 0, 0, self.side, self.side]
-        return [EMF.step("stretch_dib", self.operations[1], *numbers, self.bits)], 2_000 + down * 60 + across * down * 6
-
-    def one_line(self) -> Made:
-        """A line."""
-        ends, length = self.line()
-        return [EMF.step("move", *ends[:2]), EMF.step("line", *ends[2:])], 400 + self.stroking(1, min(length, self.longest))
-
-    def lone_polyline(self) -> Made:
-        """A polyline of two points, or of one behind the position."""
-        ends, length = self.line()
-        work = 400 + self.stroking(1, min(length, self.longest))
-        if self.chance.random() < 0.5:
-            return [EMF.step("move", *ends[:2]), EMF.step("short_polyline_to", *ends[2:])], work
-        return [EMF.step("short_polyline", *ends)], work
-
-    def polylines(self) -> Made:
-        """A stroke of many lines apart."""
-        drawn = [self.line() for _ in range(self.many)]
-        work = 500 + self.stroking(self.many, sum(min(length, self.longest) for _, length in drawn))
-        return [EMF.step("short_polylines", *listed([ends for ends, _ in drawn]))], work
-
-    def polyline(self) -> Made:
-        """A stroke of many lines that go on from each other."""
-        near = self.chance.random() < 0.6
-        length = 30 if near else self.longest // 2
-        return [EMF.step("short_polyline", *self.places(self.many + 1, near))], 500 + self.stroking(self.many, self.many * length)
-
-    def polygon(self) -> Made:
-        """A polygon of few points or of many."""
-        count, near = 2 + self.many, self.chance.random() < 0.6
-        across, down, length = (30, 30, 30) if near else (self.width, self.height, self.longest // 2)
-        work = 500 + count * 200 + down * (60 + 15 * count) + self.filling(across, down) + self.stroking(count, count * length)
-        return [EMF.step("short_polygon", *self.places(count, near))], work
-
-    def polygons(self) -> Made:
-        """Several triangles that are filled together."""
-        lists = [self.places(3, True) for _ in range(self.many)]
-        work = 500 + self.many * (3_000 + self.filling(15, 30)) + self.stroking(3 * self.many, 90 * self.many)
-        return [EMF.step("short_polygons", *listed(lists))], work
-
-    def path(self) -> Made:
-        """A path of some of these, painted."""
-        records: list[bytes] = []
-        work = 500
-        for _ in range(self.chance.randrange(1, 6)):
-            made, taken = self.chance.choice([self.one_line, self.lone_polyline, self.polyline, self.polygon])()
-            records += made
-            work += taken
-        painted = self.chance.choice(["stroke_path", "fill_path", "stroke_and_fill_path", "abort_path"])
-        return [*EMF.records("begin_path"), *records, *EMF.records(f"end_path; {painted}")], work
-
-    def pixels(self) -> Made:
-        """A pixel."""
-        return [EMF.step("pixel", self.chance.randrange(-9, self.width + 9), self.chance.randrange(self.height))], 200
-
-    def state(self) -> list[bytes]:
-        """Records for the pen and the brush, and for a raster operation, modes, a clip and a map by chance."""
-        chance, pen = self.chance, f"styled_pen 0 0 {self.nib} 0x8040" if self.nib else "null_pen 0"
-        brush = EMF.records(self.brush_made) or [EMF.step("tiled_brush", 1, str(noise(8, 24)))]
-        made = [*EMF.records(f"save; {pen}; select 0"), *brush, *EMF.records("select 1")]
-        made += EMF.records(f"back_mode {chance.choice((1, 2))}; fill_mode {chance.choice((1, 2))}; raster {chance.choice((13, 13, 13, 7, 6, 1, 16, 9))}")
-        for _ in range(chance.choice([0, 0, 0, 1, 1, 3])):
-            made.append(EMF.step(chance.choice(["keep", "cut"]), *self.box()))
-        if chance.random() < 0.3:
-            made += EMF.records("map_mode 8; window_extent 3000 3000; viewport_extent 3100 2900")
-        return made
-
-    def records(self) -> list[bytes]:
-        """A state, and as many drawings of a shape by chance as take about so much work, or the most."""
-        records = self.state()
-        shapes: list[Callable[[], Made]] = [self.rectangle, self.pattern, self.bitmap, self.one_line, self.lone_polyline]
-        shapes += [self.polylines, self.polyline, self.polygon, self.polygons, self.path, self.pixels]
-        shape, work = self.chance.choice(shapes), 0
-        for _ in range(MOST_DRAWINGS):
-            made, taken = shape()
-            records += made
-            work += taken
-            if work >= WORK:
-                break
-        return records + EMF.records("restore -1; delete 0; delete 1")
 
 
 def mixed(number: int) -> Counted:
     """The file of this number."""
     chance = random.Random(7_000 + number)
     width, height = SURFACES[number % len(SURFACES)]
-    way = WAYS[number % len(WAYS)]
     records = [record for _ in range(SORTS) for record in Sort(chance, width, height).records()]
     made = Counted(EMF.file(records, (width, height), 16), width, height, options=PRINT if number % 2 else ())
-    if way == "over":
-        return made._replace(command="over", image=b"P6\n%d %d\n255\n" % (width, height) + b"\xff" * (3 * width * height))
-    if way == "show":
-        return made
-    return made._replace(command="play", bands=1 + height // 6 if way == "bands" else height)
+    return played(made, WAYS[number % len(WAYS)])
 
 
 def makers() -> Iterator[tuple[str, Callable[[], Counted]]]:

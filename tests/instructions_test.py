@@ -19,7 +19,7 @@ MOST_CHANGED = 1.05
 
 
 class Instructions(unittest.TestCase):
-    """No file takes more than 1.02 times the instructions on record, and none of drawings by chance more than 1.005 times. The record is of the program
+    """No file takes more than 1.02 times the instructions on record, and none by chance more than 1.005 times. The record is of the program
     as LLVM builds it."""
 
     @classmethod
@@ -30,7 +30,7 @@ class Instructions(unittest.TestCase):
         recorded = on_record()
         self.assertEqual([name for name in FILES if name not in recorded], [], "these files have no record; bench/instructions --record counts them")
         self.assertEqual([name for name in recorded if name not in FILES], [], "these records have no file")
-        self.assertEqual(len(FILES), 763)
+        self.assertEqual(len(FILES), 1_126)
 
     def test_the_limit_is_1_02_times_the_record(self):
         self.assertTrue(is_within(1020, 1000))
