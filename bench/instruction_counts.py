@@ -24,6 +24,8 @@ import nib_files
 import packed_files
 import paint_files
 import pixel_files
+import planted_files
+import planted_records
 import record_files
 import refused_files
 import row_files
@@ -51,6 +53,8 @@ MODULES = [
     edge_files,
     choice_files,
     large_files,
+    planted_files,
+    planted_records,
 ]
 
 # The files whose instructions are counted under both profiles.

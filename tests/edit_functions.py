@@ -38,12 +38,13 @@ def last_name(path):
 
 
 def block_name(kind, head):
-    """How the prover names what stands in an impl or a trait: by the type, and of a trait's impl by type and trait. And whether
-    it is what a type has by itself."""
+    """How the prover names what stands in an impl or a trait: by the type, and of a trait's impl by type and trait, and for `From` by what it is made
+    from. And whether it is what a type has by itself."""
     words = re.sub(r"\s+", " ", without_parameters(head)).split(" where ")[0].strip()
     if kind == "impl" and " for " in words:
         name, owner = words.split(" for ", 1)
-        return last_name(owner) + last_name(name), False
+        made = re.match(r" From<([\w:]+)> for ", head)
+        return last_name(owner) + last_name(name) + (last_name(made[1]) if made else ""), False
     return last_name(words), kind == "impl"
 
 

@@ -17,6 +17,7 @@ OTHERS = {
     "--fit": "an option of the command line",
     "--profile core": "an option of the command line",
     "--profile print": "an option of the command line",
+    "--replace": "an option of the command line",
     "--version": "an option of the command line",
     "-V": "an option of the command line",
     "crates/meta_main/out/meta_main": "the built program",

@@ -44,9 +44,9 @@ HELP = CRATES / "command_lines" / "src" / "declared.rt"
 
 
 def help_texts():
-    """The paragraphs of the texts of `--help`, each a list of lines."""
+    """The paragraphs of the texts of `--help`, each a list of lines. Examples are code."""
     for text in re.findall(r'"((?:[^"\\]|\\.)*)"', HELP.read_text(encoding="utf-8")):
-        yield from paragraphs(text)
+        yield from paragraphs(re.sub(r"(?m)^  metaplay .*$", "", text))
 
 
 def paragraphs(page):
