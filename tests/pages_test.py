@@ -30,6 +30,7 @@ OTHERS = {
     "flake8": "a program",
     "mypy": "a program",
     "mypy --strict": "a command line",
+    "shellcheck": "a program",
     "py3compile": "a program of Debian's",
     "python3-typeshed": "a package of Debian's",
     "/usr/bin/python3": "Debian's Python",
