@@ -23,6 +23,7 @@ class Counted(NamedTuple):
     certified: bytes = b""
     missing: int = 0
     certificate: bytes = b""
+    kept: bool = False
 
     def sides(self):
         """The words for its surface."""
@@ -31,13 +32,15 @@ class Counted(NamedTuple):
     def preparing(self):
         """The words that prepare what the command needs beside the file named `file`, if it needs anything."""
         is_prepared = self.command in ("check", "play", "over") and not self.certificate
-        return ["prepare", "file", *self.sides(), "certificate", *self.options] if is_prepared else None
+        name = "file.mpc" if self.kept else "certificate"
+        return ["prepare", "file", *self.sides(), name, *self.options] if is_prepared or self.kept else None
 
     def words(self):
         """The words of the command that is counted, on a file named `file`."""
         bands = ["--bands", str(self.bands)] if self.bands else []
         certified = {"check": ["file", "certificate"], "play": ["file", "certificate", *self.sides(), *bands], "over": ["file", "certificate", "image"]}
         plain = {"show": ["file", *self.sides()], "prepare": ["file", *self.sides(), "certificate"], "list": ["file"], "info": ["file", *["missing"] * self.missing]}
+        plain["certify"] = ["--out-dir", ".", *self.sides(), "file"]
         return [self.command, *(certified.get(self.command) or [*plain[self.command], *self.options])]
 
 

@@ -86,6 +86,16 @@ def many_missing_files() -> Counted:
     return Counted((ROOT / "samples" / "dot.wmf").read_bytes(), 4, 4, command="info", status=3, missing=3_000)
 
 
+def certified_pixels() -> Counted:
+    """20,000 pixels, certified: the records are read once, and the digests made once."""
+    return Counted(WMF.file([WMF.step("pixel", x % 64, x // 64 % 64) for x in range(20_000)], 64, 0), 64, 64, command="certify")
+
+
+def certified_again() -> Counted:
+    """The same, where the certificate is there: it is checked, and nothing is prepared."""
+    return certified_pixels()._replace(kept=True)
+
+
 FILES = {
     "8 scaled strokes of 5,000 points in four parts, 8,192 by 1,024": scaled_strokes_in_parts,
     "3 strokes of 8,000 short lines in two parts, 1,800 by 1,800": short_lines_in_parts,
@@ -96,4 +106,6 @@ FILES = {
     "30 hatched rectangles in bands of 8 rows, 16 by 4,096": hatches_in_low_bands,
     "60 wide lines in bands of 8 rows, 256 by 2,048": wide_lines_in_low_bands,
     "3,000 files that aren't there, info": many_missing_files,
+    "20,000 pixels, certified": certified_pixels,
+    "20,000 pixels, certified again": certified_again,
 }

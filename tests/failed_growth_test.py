@@ -23,7 +23,7 @@ OUT_OF_MEMORY = Answer(4, b"", b"metaplay: OutOfMemory\n")
 
 WHEEL = SAMPLES / "wheel.wmf"
 
-SMALL_EMF = SAMPLES / "small.emf"
+SMALL_EMF, DOT_FILE, HELD_FILE = (SAMPLES / name for name in ("small.emf", "dot.wmf", "held.wmf"))
 
 NO_PIXELS = pixels([])
 
@@ -154,6 +154,33 @@ class RefusedGrowth(RefusedGrowthTest):
             texts = [b"", b"%s\n%s\n" % (lost[0].encode(), second), b"%s\n%s\n" % (first, lost[1].encode())]
             met = {answered for _, answered in self.under_refusals(program, words, DOT)}
             self.assertEqual(met, {ample, *(Answer(4, text, OUT_OF_MEMORY.err) for text in texts)})
+
+    def test_a_certificate_of_one_file_is_lost_alone(self):
+        # A line is as ever, says that memory ran out, or isn't written where there is none for it. A certificate is whole or not there.
+        folder = self.mark.with_name("out")
+        folder.mkdir()
+        words = ["certify", "--out-dir", folder, "4", "4", DOT_FILE, SMALL_EMF, HELD_FILE]
+        for program in PROGRAMS:
+            ample = answer(program, words)
+            lines = ample.out.splitlines(keepends=True)
+            certificates = {path.name: path.read_bytes() for path in folder.iterdir()}
+            self.assertEqual((ample.status, len(lines), len(certificates)), (1, 3, 2))
+            names = ["accepted", "certificate", "certificate_sha256", "error", "file", "file_sha256"]
+            lost = [json.dumps(dict.fromkeys(names) | {"error": "OutOfMemory", "file": json.loads(line)["file"]}, separators=(",", ":")).encode() + b"\n" for line in lines]
+            for path in folder.iterdir():
+                path.unlink()
+            met = set()
+            for number, answered in self.under_refusals(program, words):
+                with self.subTest(program=program.name, number=number):
+                    found = answered.out.splitlines(keepends=True)
+                    self.assertTrue(all(line in pair for line, pair in zip(found, zip(lines, lost))), found)
+                    self.assertIn(answered._replace(out=b""), [ample._replace(out=b""), OUT_OF_MEMORY])
+                    self.assertEqual(answered.out == ample.out, answered.status == 1)
+                    met |= {place for place, line in enumerate(found) if line in lost}
+                for path in folder.iterdir():
+                    self.assertEqual(path.read_bytes(), certificates[path.name])
+                    path.unlink()
+            self.assertEqual(met, {0, 1, 2})
 
     def test_the_program_answers_in_full_where_nothing_is_refused(self):
         for program in PROGRAMS:

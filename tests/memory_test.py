@@ -181,6 +181,8 @@ class Memory(unittest.TestCase):
             self.assertEqual((ample.status, ample.out.count(b"\n")), (0, len(names)))
             limit = bare(program) + 3 * len(given) + 48 + ROOM
             self.assertEqual(answer_within(limit, program, ["info", *names]), ample)
+            words = ["certify", "--out-dir", folder, "4", "4", *names]
+            self.assertEqual(answer_within(limit, program, words), answer(program, words))
 
     @for_each_program
     def test_a_listing_takes_no_more_where_a_file_draws_more(self, program):
@@ -311,6 +313,7 @@ class Stack(unittest.TestCase):
                     image.write_bytes(answer(PROGRAMS[0], ["show", file, "600", "600", *options]).out)
                     words = [["show", file, "600", "600", *options], ["prepare", file, "600", "600", made, *options], ["check", file, certificate]]
                     words += [["play", file, certificate, "500", "400"], ["over", file, certificate, image], ["list", file, *options], ["info", file, *options]]
+                    words += [["certify", "--out-dir", folder, "600", "600", "--replace", *options, file]]
                     for its in words:
                         self.assertEqual(self.answer_on(enough, its), answer(PROGRAMS[0], its), (file.name, its[0]))
                         self.assertEqual(self.answer_on(less, its), Answer(-signal.SIGSEGV, b"", b""), (file.name, its[0]))

@@ -106,6 +106,18 @@ class Pieces(CallsTest):
                 (self.folder / name).write_bytes(FILE)
             self.check(program, ["info", *names], reads_of(*[len(FILE)] * count), count)
 
+    @for_each_program
+    def test_a_certificate_that_is_kept_is_read_and_not_written(self, program):
+        for count in (1, 2, 10):
+            out = self.folder / f"{pathlib.Path(program).name}.{count}"
+            out.mkdir()
+            names = [f"file.{number}" for number in range(count)]
+            for name in names:
+                (self.folder / name).write_bytes(FILE)
+            words = ["certify", "--out-dir", out, "64", "64", *names]
+            self.check(program, words, reads_of(*[len(FILE)] * count), 2 * count)
+            self.check(program, words, reads_of(*[len(FILE), CERTIFICATE] * count), count)
+
 
 # The largest surface whose rows have one pixel more than a piece. A band takes a write for each row, and one more; the header takes one.
 WIDE, HIGH = 4097, 8192
