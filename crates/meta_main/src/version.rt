@@ -2,4 +2,4 @@
 
 /// The line that `--version` writes: the version, and the checksum of all sources but this one.
 pub(crate) const VERSION: &str =
-    "metaplay 1.1.0 (sources d84b5438d00176a279eae34ac7806deaeef65a3e78a1047a665128ffc76c14ab)\n";
+    "metaplay 1.1.0 (sources 9d2d2ff898f125cce6ac12a53076f785ac6c1735a366a287ab087bfd28f7b31c)\n";
