@@ -15,6 +15,9 @@ from manual_texts import FOLDER, ROOT, paragraph, quoted, roff, term
 # The values of options that have only some; the value of any other option is a number.
 VALUES = {"profile": ["core", "print"], "allow": ["held-deletion", "emf-plus"]}
 
+# The options whose value is a folder.
+FOLDERS = {"out-dir"}
+
 # The options that may be given more than once.
 REPEATED = {"allow"}
 
@@ -101,6 +104,7 @@ def bash(program):
     known = list(commands(program))
     cases = "".join(f'        {it.name}) options="{" ".join(f"--{name}" for name, _, _ in long_options(it))}" ;;\n' for it in known)
     values = "".join(f'        --{name}) mapfile -t COMPREPLY < <(compgen -W "{" ".join(words)}" -- "$word"); return ;;\n' for name, words in VALUES.items())
+    values += "".join(f"        --{name}) compopt -o dirnames; return ;;\n" for name in FOLDERS)
     return f"""# Completions of metaplay for bash. Made by packaging/make_manual.py.
 _metaplay() {{
     local word=${{COMP_WORDS[COMP_CWORD]}} options=""
@@ -125,6 +129,7 @@ complete -F _metaplay metaplay
 def described_option(name, about, takes):
     """An option as zsh's _arguments has it."""
     value = f":value:({' '.join(VALUES[name])})" if name in VALUES else ":number" * takes
+    value = ":folder:_files -/" if name in FOLDERS else value
     return quoted("*" * (name in REPEATED) + f"--{name}[{about}]{value}")
 
 
@@ -161,6 +166,7 @@ def fish(program):
         lines.append(f"complete -c metaplay -n __fish_use_subcommand -f -a {it.name} -d {it.about!r}\n")
         for name, about, takes in long_options(it):
             value = f" -x -a '{' '.join(VALUES[name])}'" if name in VALUES else " -x" * takes
+            value = " -x -a '(__fish_complete_directories)'" if name in FOLDERS else value
             lines.append(f"complete -c metaplay -n '__fish_seen_subcommand_from {it.name}' -l {name}{value} -d {about!r}\n")
     return "".join(lines)
 

@@ -28,3 +28,9 @@ complete -c metaplay -n __fish_use_subcommand -f -a info -d 'Writes one line of 
 complete -c metaplay -n '__fish_seen_subcommand_from info' -l profile -x -a 'core print' -d 'The rules: core (the default), or print for large surfaces'
 complete -c metaplay -n '__fish_seen_subcommand_from info' -l allow -x -a 'held-deletion emf-plus' -d 'With print: also accept held-deletion or emf-plus'
 complete -c metaplay -n '__fish_seen_subcommand_from info' -l help -d 'Print help'
+complete -c metaplay -n __fish_use_subcommand -f -a certify -d 'Writes a certificate for each metafile into a folder'
+complete -c metaplay -n '__fish_seen_subcommand_from certify' -l out-dir -x -a '(__fish_complete_directories)' -d 'The folder of the certificates'
+complete -c metaplay -n '__fish_seen_subcommand_from certify' -l replace -d "Replace a plain file that has a certificate's name"
+complete -c metaplay -n '__fish_seen_subcommand_from certify' -l profile -x -a 'core print' -d 'The rules: core (the default), or print for large surfaces'
+complete -c metaplay -n '__fish_seen_subcommand_from certify' -l allow -x -a 'held-deletion emf-plus' -d 'With print: also accept held-deletion or emf-plus'
+complete -c metaplay -n '__fish_seen_subcommand_from certify' -l help -d 'Print help'
