@@ -106,7 +106,9 @@ class Folder(CertifyRecipes):
         rooms.mkdir()
         settings = self.settings | {"METAPLAY": str(program), "TMPDIR": str(rooms)}
         words = [FILES, "certificates", "64", "64"]
-        with subprocess.Popen(words, stdin=subprocess.PIPE, cwd=self.folder, env=settings, start_new_session=True) as running:
+        # What runs in the background of a shell may ignore interrupts.
+        how = {"start_new_session": True, "preexec_fn": lambda: signal.signal(signal.SIGINT, signal.SIG_DFL)}
+        with subprocess.Popen(words, stdin=subprocess.PIPE, cwd=self.folder, env=settings, **how) as running:
             running.stdin.write(b"dot.wmf\0")
             running.stdin.close()
             self.assertTrue(waited(lambda: process.exists() and process.read_text().endswith("\n")))

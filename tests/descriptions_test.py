@@ -83,7 +83,7 @@ class Descriptions(unittest.TestCase):
 
     def test_a_file_that_does_not_open(self):
         file = bytearray(described(units_of("abcd")))
-        struct.pack_into("<4i", file, 8, 5, 5, 4, 4)
+        struct.pack_into("<4i", file, 8, 0, 0, 0x7FFFFFFF, 0x7FFFFFFF)
         for program in PROGRAMS:
             line = json.loads(lines(program, [("", bytes(file))])[0])
             self.assertEqual((line["fault"], line["description"]), ("NoFrame", "abcd"))

@@ -192,7 +192,7 @@ class HelpTexts(unittest.TestCase):
     @for_each_program
     def test_the_help_of_each_command(self, program):
         for name, text in HELP.items():
-            for words in ([name, "--help"], [name, "-h"], ["help", name], [name, "a.wmf", "--help", "b", "c", "d", "e"]):
+            for words in ([name, "--help"], [name, "-h"], ["help", name], [name, "1", "--help", "2", "c", "d", "e"]):
                 self.assert_helps(program, words, text)
 
 
