@@ -26,6 +26,7 @@ import paint_files
 import pixel_files
 import planted_files
 import planted_records
+import rare_files
 import record_files
 import refused_files
 import row_files
@@ -55,6 +56,7 @@ MODULES = [
     large_files,
     planted_files,
     planted_records,
+    rare_files,
 ]
 
 # The files whose instructions are counted under both profiles.

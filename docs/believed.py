@@ -22,7 +22,7 @@ CALLS = {
     "player": ["play", "play_bands"],
     "commands": [
         *("show_command_by", "prepare_command_by", "check_command", "play_command", "over_command", "list_command", "list_command_by"),
-        "run_words",
+        *("batch_command", "run_words"),
     ],
     "metaplay_c": [
         *("metaplay_check", "metaplay_prepare", "metaplay_prepare_print", "metaplay_play", "metaplay_fitted_sides"),
