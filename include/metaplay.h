@@ -88,6 +88,21 @@ typedef struct metaplay_sides {
     uint32_t height;
 } metaplay_sides;
 
+/*
+ * Some rows of a surface, and where they lie in a buffer. Row 0 is at the top of the surface. In the buffer, the first of
+ * these rows begins at the first byte, and each further one `stride` bytes after the row above.
+ */
+typedef struct metaplay_rows {
+    /* The width and the height of the surface, in pixels. */
+    uint32_t width;
+    uint32_t height;
+    /* The number of the first row, and how many rows there are: at least 1. All of them are rows of the surface. */
+    uint32_t first;
+    uint32_t count;
+    /* At least 3 * width, in bytes. */
+    uint32_t stride;
+} metaplay_rows;
+
 /* What a certificate says of every play. */
 typedef struct metaplay_terms {
     /* The most pixels that a play writes. A pixel that is written twice counts twice. */
@@ -135,6 +150,32 @@ metaplay_answer metaplay_prepare_print(const uint8_t *file, size_t file_length, 
 metaplay_answer metaplay_play(const uint8_t *file, size_t file_length, const uint8_t *certificate,
                               size_t certificate_length, uint32_t width, uint32_t height, uint8_t *out,
                               size_t out_length);
+
+/*
+ * Checks a certificate against a file, plays the file on some rows of a white surface, and writes these rows to `out`.
+ * Each has the bytes that `metaplay_play` writes for it, and no byte between two rows changes. It takes stride *
+ * (count - 1) + 3 * width bytes, and `length` is that number.
+ *
+ * An image can be played strip by strip in this way, in little memory, and its caller can stop after each strip. But each
+ * call checks the certificate and goes through all records of the file again: once for the check, and once for each
+ * 1,048,576 pixels of the rows. Beside `out`, a call takes at most 3 MiB for pixels, or one row.
+ *
+ * The first of these decides: the width or the height isn't from 1 to 8,192, there is no row, a row is beyond the
+ * surface, or the stride is too small (fault 8, BadBound); `metaplay_check` rejects the pair; the surface exceeds the
+ * certificate's bound (fault 42, SurfaceTooLarge); `out` is too short.
+ */
+metaplay_answer metaplay_play_rows(const uint8_t *file, size_t file_length, const uint8_t *certificate,
+                                   size_t certificate_length, const metaplay_rows *rows, uint8_t *out,
+                                   size_t out_length);
+
+/*
+ * Checks a certificate against a file, and plays the file over an image of this size, whose samples are at the start of
+ * `image`, as `metaplay_play` writes them. The result replaces them. Beside `image`, a second image is in memory: three
+ * bytes per pixel, and some padding. What decides is the same as for `metaplay_play`.
+ */
+metaplay_answer metaplay_over(const uint8_t *file, size_t file_length, const uint8_t *certificate,
+                              size_t certificate_length, uint32_t width, uint32_t height, uint8_t *image,
+                              size_t image_length);
 
 /*
  * Finds the largest sides within a width and a height that are in the proportion of the file's frame: one of them is

@@ -62,7 +62,7 @@ module _ (laws : RowsLaws) (rules : Rules) (file : List ℕ) (width height : ℕ
       omega (arith, count, of_text, of_both, of_header, of_samples)
 
   -- if header and samples are the text, the samples are the raster
-  whole : head ++ after ≡ text → HasSamples rules file width height after
+  whole : head ++ after ≡ text → HasSamples rules file width height (white width height) after
   whole same = record {
     image = run.image;
     run = run.run;
@@ -72,14 +72,14 @@ module _ (laws : RowsLaws) (rules : Rules) (file : List ℕ) (width height : ℕ
   }
 
   -- a writer accepted the whole text
-  whole_samples : (written : ℕ) → take written (head ++ after) ≡ text → HasSamples rules file width height after
+  whole_samples : (written : ℕ) → take written (head ++ after) ≡ text → HasSamples rules file width height (white width height) after
   whole_samples written same =
       let count : length (take written (head ++ after)) ≡ length (head ++ after) = ap length same ∙ long in
       let cut = length-take written (head ++ after) in
       whole (sym (take_all written (head ++ after) (omega (arith, count, cut))) ∙ same)
 
   -- a writer accepted a prefix of the text, and is full
-  full_samples : (sent unsent : List ℕ) → text ≡ sent ++ unsent → head ++ after ≡ sent → HasSamples rules file width height after
+  full_samples : (sent unsent : List ℕ) → text ≡ sent ++ unsent → head ++ after ≡ sent → HasSamples rules file width height (white width height) after
   full_samples sent unsent prefix full =
       let count = ap length prefix ∙ length-append sent unsent in
       let filled = ap length full in
@@ -97,20 +97,20 @@ module _ (name named : ℕ) (before after final : List ℕ) (back : IsBack name 
   pub played :
       RowsLaws → (rules : Rules) (file : List ℕ) (width height : ℕ) → 1 ≤ width → (head text : List ℕ) (written : ℕ) → IsRunText rules file width height (white width height) text
       → length head ≡ length (header width height) → length before ≡ sample_count width height
-      → named ∷ take written (head ++ after) ≡ name ∷ text → HasSamples rules file width height final
+      → named ∷ take written (head ++ after) ≡ name ∷ text → HasSamples rules file width height (white width height) final
   played laws rules file width height some head text written run of_header of_samples holds =
       let same : name ≡ named = cc in
       let accepted : take written (head ++ after) ≡ text = cc in
       let is = back.1 same in
       let size = sym (ap length is) ∙ back.0 ∙ of_samples in
-      subst (λ (s : List ℕ). HasSamples rules file width height s) (sym is) (whole_samples laws rules file width height some head after text run of_header size written accepted)
+      subst (λ (s : List ℕ). HasSamples rules file width height (white width height) s) (sym is) (whole_samples laws rules file width height some head after text run of_header size written accepted)
 
   -- the same if the writer is full
   pub filled :
       RowsLaws → (rules : Rules) (file : List ℕ) (width height : ℕ) → 1 ≤ width → (head text sent unsent : List ℕ) (written : ℕ)
       → IsRunText rules file width height (white width height) text → length head ≡ length (header width height) → length before ≡ sample_count width height
       → text ≡ sent ++ unsent → written ≡ length head + length after → named ∷ take written (head ++ after) ≡ name ∷ sent
-      → HasSamples rules file width height final
+      → HasSamples rules file width height (white width height) final
   filled laws rules file width height some head text sent unsent written run of_header of_samples prefix full holds =
       let same : name ≡ named = cc in
       let accepted : take written (head ++ after) ≡ sent = cc in
@@ -118,7 +118,7 @@ module _ (name named : ℕ) (before after final : List ℕ) (back : IsBack name 
       let size = sym (ap length is) ∙ back.0 ∙ of_samples in
       let both = length-append head after in
       let all = sym (take_all written (head ++ after) (omega (arith, both, full))) ∙ accepted in
-      subst (λ (s : List ℕ). HasSamples rules file width height s) (sym is) (full_samples laws rules file width height some head after text run of_header size sent unsent prefix all)
+      subst (λ (s : List ℕ). HasSamples rules file width height (white width height) s) (sym is) (full_samples laws rules file width height some head after text run of_header size sent unsent prefix all)
 
   -- the buffer is unchanged after nothing was accepted
   pub unplayed :

@@ -1,16 +1,16 @@
 //! Playing a file into a buffer.
 
-ghost use Rattle.std.specs.Prelude.{◌≡◌, ◌*◌, IsTrue, true};
-ghost use Rattle.player.specs.Bounds.{IsAboveBound, IsWithinBound};
+ghost use Rattle.std.specs.Prelude.{◌≡◌, ◌*◌, true};
 ghost use Rattle.preflight_cert.specs.Preparation.{is_bound};
-ghost use Rattle.buffer_calls.specs.Plays.{EndsCleared, EndsPlay};
+ghost use Rattle.player.specs.Bounds.{IsWithinBound};
+ghost use Rattle.buffer_calls.specs.Plays.{EndsClearedPlay, EndsPlay};
 
+use crate::clearing::cleared_for;
 use crate::fitting::is_bound;
-use crate::outcome::{Outcome, outcome_of};
+use crate::outcome::Outcome;
 use crate::samples::play_samples;
 use canvas::OutOfMemory;
-use draw_ops::Fault;
-use preflight_cert::{Certificate, Cleared, Refusal, check};
+use preflight_cert::Cleared;
 use proportions::Sides;
 use std::alloc::Global;
 
@@ -35,23 +35,18 @@ pub fn play_into(
 ) -> Outcome
     ensures { EndsPlay file.now certificate.now surface.width surface.height out.old out.new result }
 {
-    if !is_bound(surface) {
-        return Outcome::Rejected(Refusal::of_file(Fault::BadBound));
-    }
-    match check(alloc, file, certificate) {
+    match cleared_for(alloc, file, certificate, surface, is_bound(surface)) {
         Ok(cleared) => play_cleared(alloc, &cleared, surface, out),
-        Err(refusal) => outcome_of(refusal),
+        Err(outcome) => outcome,
     }
 }
 
 /// Plays a cleared file, in the same way.
 fn play_cleared(alloc: Global, cleared: &Cleared<'_>, surface: Sides, out: &mut [u8]) -> Outcome
-    requires { is_bound surface.width surface.height ≡ true }
-    ensures { EndsCleared cleared.now surface.width surface.height out.old out.new result }
+    requires bound { is_bound surface.width surface.height ≡ true }
+    requires within { IsWithinBound cleared.now.certificate surface.width surface.height }
+    ensures { EndsClearedPlay cleared.now surface.width surface.height out.old out.new result }
 {
-    if !allows(&cleared.certificate, surface) {
-        return Outcome::Rejected(Refusal::of_file(Fault::SurfaceTooLarge));
-    }
     let count = sample_count(surface);
     if out.len() < count {
         return Outcome::TooShort(count);
@@ -62,16 +57,8 @@ fn play_cleared(alloc: Global, cleared: &Cleared<'_>, surface: Sides, out: &mut 
     }
 }
 
-/// Whether a certificate is for surfaces of this size.
-fn allows(certificate: &Certificate<'_>, surface: Sides) -> bool
-    ensures within { IsTrue result → IsWithinBound certificate.now surface.width surface.height }
-    ensures above { (IsTrue result → ⊥) → IsAboveBound surface.width surface.height certificate.now }
-{
-    surface.width <= certificate.max_width && surface.height <= certificate.max_height
-}
-
 /// The number of samples of a surface: three for each pixel.
-fn sample_count(surface: Sides) -> usize
+pub(crate) fn sample_count(surface: Sides) -> usize
     requires { is_bound surface.width surface.height ≡ true }
     ensures count { result ≡ 3 * surface.width * surface.height }
 {

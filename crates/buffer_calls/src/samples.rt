@@ -2,6 +2,7 @@
 
 ghost use Rattle.std.specs.Prelude.{◌≡◌, ◌⊎◌, ◌+◌, ◌*◌, ◌^◌, ◌<◌, ◌≤◌, length, OnErr, OnOk};
 ghost use Rattle.canvas.specs.Ppm.{header};
+ghost use Rattle.preflight_cert.specs.Run.{white};
 ghost use Rattle.player.specs.Bounds.{IsWithinBound};
 ghost use Rattle.buffer_calls.specs.Plays.{HasClearedSamples};
 
@@ -22,7 +23,7 @@ use std::marker::{Brand, PhantomData};
 const BAND_PIXELS: u32 = 1 << 20;
 
 /// The number of rows in a band.
-fn band_rows(width: u32) -> u32
+pub(crate) fn band_rows(width: u32) -> u32
     requires { 1 ≤ width }
     ensures some { 1 ≤ result }
     ensures few { (result ≡ 1) ⊎ (result * width ≤ 2 ^ 20) }
@@ -43,7 +44,7 @@ pub(crate) fn play_samples(
     requires high { 1 ≤ surface.height }
     requires within { IsWithinBound cleared.now.certificate surface.width surface.height }
     requires size { length samples.old ≡ 3 * surface.width * surface.height }
-    ensures done { OnOk result (HasClearedSamples cleared.now surface.width surface.height samples.new) }
+    ensures done { OnOk result (HasClearedSamples cleared.now surface.width surface.height (white surface.width surface.height) samples.new) }
     ensures kept { OnErr result (samples.new ≡ samples.old) }
 {
     write_samples::<Brand>(alloc, cleared, surface, samples)
@@ -62,7 +63,7 @@ fn write_samples<T: Target>(
     requires size { length samples.old ≡ 3 * surface.width * surface.height }
     requires start { samples.old ≡ T.start }
     requires header { length (header surface.width surface.height) ≡ T.header_length }
-    ensures done { OnOk result (HasClearedSamples cleared.now surface.width surface.height samples.new) }
+    ensures done { OnOk result (HasClearedSamples cleared.now surface.width surface.height (white surface.width surface.height) samples.new) }
     ensures kept { OnErr result (samples.new ≡ samples.old) }
 {
     rows_law();

@@ -18,6 +18,8 @@
 //!   `Canvas::write_rows`), and the text of an image is its header followed by the rasters of its bands (`band_law`).
 //! - Reading a P6 text returns exactly the image that the text describes, and fails exactly if it describes none
 //!   (`Canvas::from_ppm`, by `read_ppm`). The text that is written for an image is read back as that image (`ppm_law`).
+//! - The samples of all rows, or of one row, are copied to a buffer (`Canvas::copy_samples`, `Canvas::copy_row`). A canvas
+//!   that is made of samples shows the image that they describe (`Canvas::from_samples`, by `image_at`).
 //! - All bytes are sent, or a prefix of them if the writer fails, however many the writer accepts per call (`send`).
 //! - With a writer that counts its faults, `WriteFault` is returned only if that count rose in the call, and so never
 //!   if the writer didn't fail (`send_counted`, `write_header_to`, `Canvas::write_ppm_to`, `Canvas::write_rows_to`,
@@ -40,6 +42,7 @@ mod pixel_source;
 mod ppm;
 mod ppm_counted;
 mod reading;
+mod samples;
 mod sending;
 mod span_source;
 mod splat;

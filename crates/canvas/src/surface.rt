@@ -16,7 +16,7 @@ use crate::counting::FaultCount;
 use crate::parts::fill_with;
 use crate::ppm::{write_raster, write_text};
 use crate::ppm_counted::{write_raster_to, write_text_to};
-use crate::reading::{read_head, read_rows};
+use crate::reading::read_head;
 use crate::splat::{Splat, same_colours};
 use mapping::Colour;
 use std::alloc::Global;
@@ -120,16 +120,14 @@ impl Canvas {
         if samples.len() / 3 < area(head.height, width) {
             return Err(ImageError::BadImage);
         }
-        let stride = stride_of(head.width);
-        let Ok(mut colours) = Vec::from_elem(alloc, Colour::WHITE, area(head.height, stride)) else {
-            return Err(ImageError::OutOfMemory);
-        };
-        read_rows(&mut colours, head.height, width, stride, samples);
-        Ok(Canvas::of(colours, head.width, 0, head.height))
+        match Canvas::from_samples(alloc, head.width, head.height, samples) {
+            Ok(canvas) => Ok(canvas),
+            Err(OutOfMemory) => Err(ImageError::OutOfMemory),
+        }
     }
 
     /// The canvas with these colours, before anything is written.
-    fn of(colours: Vec<Colour>, width: u32, first: u32, rows: u32) -> Canvas
+    pub(crate) fn of(colours: Vec<Colour>, width: u32, first: u32, rows: u32) -> Canvas
         requires wide { IsSurfaceSide width }
         requires high { 1 ≤ rows }
         requires within { first + rows ≤ surface_side_limit }
@@ -286,7 +284,7 @@ pub(crate) fn stride_of(width: u32) -> usize
 }
 
 /// The number of colours in this many rows, including padding.
-fn area(rows: u32, stride: usize) -> usize
+pub(crate) fn area(rows: u32, stride: usize) -> usize
     requires rows { rows ≤ surface_side_limit }
     requires stride { stride ≤ row_stride surface_side_limit }
     ensures { result ≡ rows * stride }

@@ -11,10 +11,12 @@ use Rattle.preflight_cert.specs.declared.refusal.Refusal.{Refusal}
 use Rattle.buffer_calls.specs.FaultNames.{EndsName}
 use Rattle.buffer_calls.specs.Prepares.{EndsPrepare}
 use Rattle.buffer_calls.specs.declared.outcome.Outcome.{Outcome}
+use Rattle.buffer_calls.specs.declared.placed_rows.PlacedRows.{PlacedRows}
 use Rattle.buffer_calls.specs.declared.terms.Terms.{Terms}
 use Rattle.buffer_calls.specs.declared.outcome.Outcome.TheVariants.{Done, OutOfMemory, Rejected, TooShort}
 use Rattle.metaplay_c.specs.declared.answers.Answer.{Answer}
 use Rattle.metaplay_c.specs.declared.answers.CertificateTerms.{CertificateTerms}
+use Rattle.metaplay_c.specs.declared.answers.SurfaceRows.{SurfaceRows}
 use Rattle.metaplay_c.specs.declared.answers.SurfaceSides.{SurfaceSides}
 
 -- the number, or 0 if there is none
@@ -57,6 +59,13 @@ answer_of OutOfMemory = plain_answer 3 0
 abbrev pub name_answer : Option Outcome → Answer
 name_answer (Some outcome) = answer_of outcome
 name_answer None = plain_answer 4 0
+
+-- some rows of a surface, and where they lie in a buffer
+abbrev pub rows_of : SurfaceRows → PlacedRows
+rows_of rows = record {
+  surface = record { width = rows.width; height = rows.height };
+  layout = record { first = rows.first; count = rows.count; stride = rows.stride };
+}
 
 -- The answer is that for an outcome in which a call may end.
 pub record Reports (ends : Outcome → Type 0) (answer : Answer) : Type 0 where

@@ -1,10 +1,12 @@
 //! Answers in the form that C has: structs of numbers.
 
 ghost use Rattle.std.specs.Prelude.{◌≡◌};
-ghost use Rattle.metaplay_c.specs.Answers.{answer_of, name_answer, plain_answer, rejected_answer};
+ghost use Rattle.metaplay_c.specs.Answers.{answer_of, name_answer, plain_answer, rejected_answer, rows_of};
 
-use buffer_calls::Outcome;
+use buffer_calls::{Outcome, PlacedRows};
+use player::RowLayout;
 use preflight_cert::Refusal;
+use proportions::Sides;
 
 /// The call is done.
 pub(crate) const DONE: u32 = 0;
@@ -45,6 +47,18 @@ pub struct Answer {
 pub struct SurfaceSides {
     pub width: u32,
     pub height: u32,
+}
+
+/// Some rows of a surface of `width` by `height` pixels: `count` rows from row `first` on. In the buffer, each begins
+/// `stride` bytes after the row above.
+#[repr(C)]
+#[derive(Clone, Copy, Debug, PartialEq, Eq)]
+pub struct SurfaceRows {
+    pub width: u32,
+    pub height: u32,
+    pub first: u32,
+    pub count: u32,
+    pub stride: u32,
 }
 
 /// What a certificate says of every play: the most pixels that it writes, and the bound in pixels.
@@ -106,5 +120,22 @@ pub(crate) fn rejected_answer(refusal: Refusal) -> Answer
         has_record_number: number.is_some(),
         has_record_kind: kind.is_some(),
         length: 0,
+    }
+}
+
+/// The rows, as the calls below have them.
+pub(crate) fn rows_of(rows: &SurfaceRows) -> PlacedRows
+    ensures { result ≡ rows_of rows.now }
+{
+    PlacedRows {
+        surface: Sides {
+            width: rows.width,
+            height: rows.height,
+        },
+        layout: RowLayout {
+            first: rows.first,
+            count: rows.count,
+            stride: rows.stride,
+        },
     }
 }

@@ -5,15 +5,18 @@ ghost use Rattle.draw_ops.specs.RuleSets.{allowances_of, core_rules};
 ghost use Rattle.buffer_calls.specs.CertifiedTerms.{terms_result};
 ghost use Rattle.buffer_calls.specs.Checks.{EndsCheck};
 ghost use Rattle.buffer_calls.specs.Fitted.{fitted_result};
-ghost use Rattle.buffer_calls.specs.Plays.{EndsPlay};
+ghost use Rattle.buffer_calls.specs.Plays.{EndsOver, EndsPlay, EndsRows};
 ghost use Rattle.buffer_calls.specs.Prepares.{EndsPrepare};
-ghost use Rattle.metaplay_c.specs.Answers.{Reports, ReportsName, ReportsPrepared, ReportsSides, ReportsTerms};
+ghost use Rattle.metaplay_c.specs.Answers.{Reports, ReportsName, ReportsPrepared, ReportsSides, ReportsTerms, rows_of};
 
 use crate::answers::{
-    Answer, CertificateTerms, DONE, SurfaceSides, answer_of, name_answer, plain_answer,
-    rejected_answer,
+    Answer, CertificateTerms, DONE, SurfaceRows, SurfaceSides, answer_of, name_answer,
+    plain_answer, rejected_answer, rows_of,
 };
-use buffer_calls::{check_bytes, copy_fault_name, fitted_for, play_into, prepare_into, terms_of};
+use buffer_calls::{
+    check_bytes, copy_fault_name, fitted_for, over_into, play_into, play_rows_into, prepare_into,
+    terms_of,
+};
 use draw_ops::{Allowances, Fault, Rules};
 use preflight_cert::Refusal;
 use proportions::Sides;
@@ -75,6 +78,36 @@ pub extern "C" fn metaplay_play(
 {
     let surface = Sides { width, height };
     answer_of(play_into(alloc, file, certificate, surface, out))
+}
+
+/// Checks a certificate against a file, and plays some rows of the file into a buffer of samples.
+#[unsafe(no_mangle)]
+pub extern "C" fn metaplay_play_rows(
+    alloc: Global,
+    file: &[u8],
+    certificate: &[u8],
+    rows: &SurfaceRows,
+    out: &mut [u8],
+) -> Answer
+    ensures { Reports (EndsRows file.now certificate.now (rows_of rows.now) out.old out.new) result }
+{
+    answer_of(play_rows_into(alloc, file, certificate, rows_of(rows), out))
+}
+
+/// Checks a certificate against a file, and plays the file over the image in a buffer of samples.
+#[unsafe(no_mangle)]
+pub extern "C" fn metaplay_over(
+    alloc: Global,
+    file: &[u8],
+    certificate: &[u8],
+    width: u32,
+    height: u32,
+    image: &mut [u8],
+) -> Answer
+    ensures { Reports (EndsOver file.now certificate.now width height image.old image.new) result }
+{
+    let surface = Sides { width, height };
+    answer_of(over_into(alloc, file, certificate, surface, image))
 }
 
 /// The largest sides within a width and a height that are in the proportion of a file's frame.

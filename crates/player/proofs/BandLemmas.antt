@@ -13,7 +13,7 @@ use Rattle.preflight_cert.specs.RowsLaws.{IsWholeImage, RowsLaws, laid}
 use Rattle.preflight_cert.specs.Writes.{writes_of_drawings}
 
 -- rows of one colour
-whole_blank : (width rows : ℕ) (start : Colour) → 1 ≤ width → IsWholeImage (blank width rows start)
+pub whole_blank : (width rows : ℕ) (start : Colour) → 1 ≤ width → IsWholeImage (blank width rows start)
 whole_blank width rows start wide = record { wide = wide; whole = length-replicate (rows * width) start }
 
 blank_laid : (width rows more : ℕ) (start : Colour) → blank width (rows + more) start ≡ laid (blank width rows start) (blank width more start)
@@ -23,10 +23,10 @@ blank_laid width rows more start =
 
 module _ (laws : RowsLaws) (drawings : List NumberedDrawing) (s : Surface) (start : Colour) (wide : 1 ≤ s.width) where
   -- what the drawings leave of the rows from one on
-  abbrev after : ℕ → ℕ → Image
+  abbrev pub after : ℕ → ℕ → Image
   after first rows = rows_after drawings s first (blank s.width rows start)
 
-  after_laid : (rows more : ℕ) → after 0 (rows + more) ≡ laid (after 0 rows) (after rows more)
+  pub after_laid : (rows more : ℕ) → after 0 (rows + more) ≡ laid (after 0 rows) (after rows more)
   after_laid rows more =
       let e : 0 + rows ≡ rows = omega arith in
       ap (rows_after drawings s 0) (blank_laid s.width rows more start)

@@ -7,3 +7,5 @@ pub mod BandTextLemmas
 pub mod ClearedBandLemmas
 pub mod ReadyLemmas
 pub mod WriterLemmas
+mod CopyLemmas
+mod BandRowLemmas

@@ -13,7 +13,7 @@ use Rattle.dc_stack.specs.OperationFault.{fault_of}
 use Rattle.dc_stack.specs.State.{State}
 use Rattle.player.specs.After.{HasCapacityForSteps}
 use Rattle.preflight_cert.specs.NeedLaws.{HasCapacityFor, NeedLaws}
-use Rattle.preflight_cert.specs.Stop.{Stop, broken_after, emf_plus_stop, step_stop, stop_at, stop_of, stopped, stopped_or}
+use Rattle.preflight_cert.specs.Stop.{Stop, broken_after, step_stop, stop_at, stop_of, stopped, stopped_or}
 
 -- memory for the needs of all steps is memory for those of the first
 capacity_for_first : NeedLaws → (step : StepValue) (rest : Content) (m : MachineState) → HasCapacityForSteps (with_step step rest) m → HasCapacityFor (needs_of step.operation m.state) m

@@ -7,3 +7,4 @@ pub mod ClearedPlay
 pub mod Bands
 pub mod ReadyBands
 pub mod PartsWritten
+pub mod Rows

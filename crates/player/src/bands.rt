@@ -55,7 +55,7 @@ pub fn play_bands<W: Write>(
         start,
         rows,
     };
-    match band_scratch(alloc, cleared, plan) {
+    match band_scratch(alloc, cleared, plan, 0) {
         Ok(mut scratch) => write_image::<W, Uncounted>(cleared, &mut scratch, plan, out),
         Err(fault) => Err(fault),
     }
@@ -93,7 +93,7 @@ pub fn play_bands_to<W: FaultCount>(
         start,
         rows,
     };
-    match band_scratch(alloc, cleared, plan) {
+    match band_scratch(alloc, cleared, plan, 0) {
         Ok(mut scratch) => write_image::<W, Counted>(cleared, &mut scratch, plan, out),
         Err(fault) => Err(fault),
     }
@@ -154,7 +154,7 @@ fn write_bands<'a, W: Write, P: PartWriter<W>>(
         let rows = show_band(cleared, scratch, plan, first);
         P::write_rows(out, &scratch.canvas)?;
         first += rows;
-        begin_band(&mut scratch.canvas, plan, first);
+        begin_band(&mut scratch.canvas, plan, first, plan.height);
     }
     Ok(())
 }

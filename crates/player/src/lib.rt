@@ -9,6 +9,9 @@
 //!   written, and the run's number of writes is returned. If the surface exceeds the bound or an allocation fails,
 //!   nothing was written. If the writer fails, a prefix of the text was written (`play_bands`). With a writer that
 //!   counts its faults, a write error is returned only if that count rose (`play_bands_to`).
+//! - It plays over one colour on some rows of a surface, whose samples are copied to a buffer. Each row has those of the
+//!   run's image, and no byte between two rows is changed. If the surface exceeds the bound or an allocation fails, the
+//!   buffer is unchanged (`play_rows`, by `CopiesRun`).
 #![tactic(auto)]
 
 mod band_plan;
@@ -18,7 +21,11 @@ mod cleared_play;
 mod part_writer;
 mod play_scratch;
 mod playing;
+mod row_copying;
+mod row_layout;
 
 pub use band_plan::BandPlan;
 pub use bands::{play_bands, play_bands_to};
 pub use cleared_play::play;
+pub use row_copying::play_rows;
+pub use row_layout::RowLayout;
