@@ -35,6 +35,12 @@ class Sides(ctypes.Structure):
     _fields_ = [("width", ctypes.c_uint32), ("height", ctypes.c_uint32)]
 
 
+class Rows(ctypes.Structure):
+    """Some rows of a surface, and where they lie in a buffer, as `metaplay_rows`."""
+
+    _fields_ = [(name, ctypes.c_uint32) for name in ("width", "height", "first", "count", "stride")]
+
+
 class Terms(ctypes.Structure):
     """What a certificate says of every play, as `metaplay_terms`."""
 
@@ -55,6 +61,8 @@ FUNCTIONS = {
     "metaplay_prepare": [*BYTES, *SIZE, *BUFFER],
     "metaplay_prepare_print": [*BYTES, ctypes.c_uint32, *SIZE, *BUFFER],
     "metaplay_play": [*BYTES, *BYTES, *SIZE, *BUFFER],
+    "metaplay_play_rows": [*BYTES, *BYTES, ctypes.POINTER(Rows), *BUFFER],
+    "metaplay_over": [*BYTES, *BYTES, *SIZE, *BUFFER],
     "metaplay_fitted_sides": [*BYTES, *SIZE, ctypes.POINTER(Sides)],
     "metaplay_certificate_terms": [*BYTES, ctypes.POINTER(Terms)],
     "metaplay_fault_name": [ctypes.c_uint32, *BUFFER],
@@ -89,6 +97,21 @@ class Metaplay:
         buffer = ctypes.create_string_buffer(max(needed, 1))
         inputs = file, len(file), certificate, len(certificate)
         length = self.demand(self.library.metaplay_play(*inputs, width, height, buffer, needed))
+        return buffer.raw[:length]
+
+    def play_rows(self, file, certificate, rows):
+        """The bytes of some rows of a file's image, with zeros between them."""
+        needed = rows.stride * (rows.count - 1) + 3 * rows.width
+        buffer = ctypes.create_string_buffer(max(needed, 1))
+        inputs = file, len(file), certificate, len(certificate)
+        length = self.demand(self.library.metaplay_play_rows(*inputs, ctypes.byref(rows), buffer, max(needed, 0)))
+        return buffer.raw[:length]
+
+    def over(self, file, certificate, width, height, image):
+        """The image of a file over another image of this size, both with three bytes for each pixel."""
+        buffer = ctypes.create_string_buffer(image, max(len(image), 1))
+        inputs = file, len(file), certificate, len(certificate)
+        length = self.demand(self.library.metaplay_over(*inputs, width, height, buffer, len(image)))
         return buffer.raw[:length]
 
     def fitted_sides(self, file, width, height):

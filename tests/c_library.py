@@ -127,6 +127,20 @@ def play(given, certificate, sides, length):
     return numbers(library().library.metaplay_play(*inputs, *sides, *buffer.words())), buffer
 
 
+def play_rows(given, certificate, rows, length):
+    """The same of playing some rows of it."""
+    buffer = Buffer(length)
+    inputs = given, len(given), certificate, len(certificate)
+    return numbers(library().library.metaplay_play_rows(*inputs, ctypes.byref(SHOW.Rows(*rows)), *buffer.words())), buffer
+
+
+def play_over(given, certificate, sides, image, length):
+    """The numbers of the answer to playing a file over an image, of whose bytes the call is told so many, and what the image's buffer then has."""
+    held = ctypes.create_string_buffer(image, len(image))
+    inputs = given, len(given), certificate, len(certificate)
+    return numbers(library().library.metaplay_over(*inputs, *sides, held, length)), held.raw
+
+
 def check(given, certificate):
     """The numbers of the answer to checking a certificate."""
     return numbers(library().library.metaplay_check(given, len(given), certificate, len(certificate)))

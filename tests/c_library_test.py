@@ -310,7 +310,7 @@ class Memory(unittest.TestCase):
         for name in NAMES:
             done = subprocess.run([program, SAMPLES / name, "200"], capture_output=True, text=True, check=True)
             *outcomes, used = map(int, done.stdout.split())
-            self.assertEqual(outcomes, [SHOW.REJECTED] * 3 + [SHOW.DONE] if name == HELD_OBJECT else [SHOW.DONE] * 4, name)
+            self.assertEqual(outcomes, [SHOW.REJECTED] * 5 + [SHOW.DONE] if name == HELD_OBJECT else [SHOW.DONE] * 6, name)
             self.assertLess(used, 1024 * int(stated[1]), name)
 
     def test_each_block_is_freed_and_none_is_misused(self):

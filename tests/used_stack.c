@@ -6,7 +6,7 @@
 #include <stdlib.h>
 #include <string.h>
 
-enum { STACK = 1 << 20, MOST = 1 << 22, UNUSED = 0xa5 };
+enum { STACK = 1 << 20, MOST = 1 << 22, UNUSED = 0xa5, CALLS = 6 };
 
 static uint8_t file[MOST], certificate[MOST], image[MOST];
 
@@ -17,15 +17,18 @@ static uint32_t side;
 static void *use_stack(void *outcomes)
 {
     metaplay_sides sides;
-    metaplay_answer answers[4];
+    metaplay_rows rows = {side, side, side / 2, 1, 3 * side};
+    metaplay_answer answers[CALLS];
     size_t made, at;
 
     answers[0] = metaplay_prepare(file, file_length, side, side, certificate, MOST);
     made = answers[0].length;
     answers[1] = metaplay_check(file, file_length, certificate, made);
     answers[2] = metaplay_play(file, file_length, certificate, made, side, side, image, MOST);
-    answers[3] = metaplay_fitted_sides(file, file_length, side, side, &sides);
-    for (at = 0; at < 4; at++)
+    answers[3] = metaplay_play_rows(file, file_length, certificate, made, &rows, image, MOST);
+    answers[4] = metaplay_over(file, file_length, certificate, made, side, side, image, MOST);
+    answers[5] = metaplay_fitted_sides(file, file_length, side, side, &sides);
+    for (at = 0; at < CALLS; at++)
         ((uint32_t *)outcomes)[at] = answers[at].outcome;
     return NULL;
 }
@@ -33,7 +36,8 @@ static void *use_stack(void *outcomes)
 int main(int count, char **words)
 {
     unsigned char *stack;
-    uint32_t outcomes[4];
+    uint32_t outcomes[CALLS];
+    size_t at;
     pthread_attr_t attributes;
     pthread_t thread;
     size_t unused = 0;
@@ -50,7 +54,8 @@ int main(int count, char **words)
         return 2;
     while (unused < STACK && stack[unused] == UNUSED)
         unused++;
-    printf("%lu %lu %lu %lu %lu\n", (unsigned long)outcomes[0], (unsigned long)outcomes[1], (unsigned long)outcomes[2],
-           (unsigned long)outcomes[3], (unsigned long)(STACK - unused));
+    for (at = 0; at < CALLS; at++)
+        printf("%lu ", (unsigned long)outcomes[at]);
+    printf("%lu\n", (unsigned long)(STACK - unused));
     return 0;
 }
