@@ -10,7 +10,8 @@ from writers import BETWEEN, EMF, MASKED, PATCOPY, PATINVERT, SRCCOPY, WMF, Bitm
 class Counted(NamedTuple):
     """A file, the surface that it is shown on, or another command that it is given to, the options for its rules, the status that is wanted, the
     image that it is played over, the rows of a band where a play is asked for these, the file that its certificate is of where that's another, how many
-    files that aren't there are named too, and its certificate where that isn't prepared."""
+    files that aren't there are named too, its certificate where that isn't prepared, whether one is kept in the folder, and the side that this one is
+    for where that's another."""
 
     given: bytes
     width: int
@@ -24,6 +25,7 @@ class Counted(NamedTuple):
     missing: int = 0
     certificate: bytes = b""
     kept: bool = False
+    kept_for: int = 0
 
     def sides(self):
         """The words for its surface."""
@@ -33,7 +35,8 @@ class Counted(NamedTuple):
         """The words that prepare what the command needs beside the file named `file`, if it needs anything."""
         is_prepared = self.command in ("check", "play", "over") and not self.certificate
         name = "file.mpc" if self.kept else "certificate"
-        return ["prepare", "file", *self.sides(), name, *self.options] if is_prepared or self.kept else None
+        sides = [str(self.kept_for)] * 2 if self.kept_for else self.sides()
+        return ["prepare", "file", *sides, name, *self.options] if is_prepared or self.kept else None
 
     def words(self):
         """The words of the command that is counted, on a file named `file`."""

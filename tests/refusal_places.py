@@ -25,7 +25,7 @@ GIVES_UP = re.compile(
 # that stands on the stack, where no clause says how much there is; and a loop that goes by eights, which is dear where it ends early.
 DEAR = re.compile(
     r"\.source\(\)|\bcount_steps\(|\bfirst_extent\(|\bopen_file\(|\b(?:Wmf|Emf|Record)Ops::new\(|\bDivisor::new\(|\bPlace::new\(|(?<![\w.])cells\("
-    r"|\b(?:checked|wrapping|overflowing|saturating)_(?:div|rem)\b|\b(?:div|rem)_euclid\b|(?<!\w)[/%]=? (?![A-Z][A-Z_]+\b|\d|\(1 << )"
+    r"|\.(?:div_ceil|next_multiple_of)\((?!\d)|\b(?:checked|wrapping|overflowing|saturating)_(?:div|rem)\b|\b(?:div|rem)_euclid\b|(?<!\w)[/%]=? (?![A-Z][A-Z_]+\b|\d|\(1 << )"
     r"|(?<!&)\[[\w.()]+; (?!\d{1,2}\])[^\[\]]+\]|\bwhile .*(?:\+ PERIOD|>= \d)"
 )
 
