@@ -1,12 +1,14 @@
 # `metaplay install PREFIX` and `metaplay uninstall PREFIX`: the proved program, its manual page, completions for three
-# shells, the recipes, the proved library for C, and metaplay-fixup. DESTDIR, if it is set, stands before each path, as
-# packagers need it.
+# shells, the recipes, pages, the proved library for C, and metaplay-fixup. DESTDIR, if it is set, stands before each
+# path, as packagers need it.
 # shellcheck shell=sh disable=SC2154
 
 # shellcheck source=launcher/library.sh
 . "$root/launcher/library.sh"
 # shellcheck source=launcher/fixup.sh
 . "$root/launcher/fixup.sh"
+# shellcheck source=launcher/notices.sh
+. "$root/launcher/notices.sh"
 
 # The recipe that has the path of the program in it.
 filter=$root/docs/recipes/metaplaytopdf
@@ -26,6 +28,7 @@ each_file() {
     for page in RECIPES.md FAULTS.md FIXUP.md FORMATS.md PIXELS.md certify.schema.json fixup.png info.schema.json; do
         "$1" 644 "$root/docs/$page" "share/doc/metaplay/$page"
     done
+    "$1" 644 "$linked/NOTICES" share/doc/metaplay/NOTICES
     "$1" 644 "$root/include/metaplay.h" include/metaplay.h
     "$1" 644 "$linked/libmetaplay.a" lib/libmetaplay.a
     "$1" 644 "$linked/libmetaplay.so.$interface" "lib/libmetaplay.so.$interface"
@@ -104,6 +107,7 @@ install_all() {
     is_free link - bin/metaplay-fixup
     take_folder
     link_library "$linked" "$prefix" "$built" || exit 3
+    write_notices program library >"$linked/NOTICES" || exit 3
     sed "s|/usr/local/bin/metaplay|$prefix/bin/metaplay|" "$filter" >"$linked/metaplaytopdf" || exit 3
     each_file install_one
     ln -sfnT -- "libmetaplay.so.$interface" "$place/lib/libmetaplay.so" || exit 3

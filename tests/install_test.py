@@ -34,7 +34,7 @@ INSTALLED = {
     "lib/libmetaplay.so.1": False,
     "lib/pkgconfig/metaplay.pc": False,
     **dict.fromkeys((f"share/doc/metaplay/{name}" for name in ("FAULTS.md", "FIXUP.md", "FORMATS.md", "PIXELS.md", "RECIPES.md")), False),
-    **dict.fromkeys((f"share/doc/metaplay/{name}" for name in ("certify.schema.json", "fixup.png", "info.schema.json")), False),
+    **dict.fromkeys((f"share/doc/metaplay/{name}" for name in ("NOTICES", "certify.schema.json", "fixup.png", "info.schema.json")), False),
     **{f"share/metaplay/recipes/{it.name}": os.access(it, os.X_OK) for it in (ROOT / "docs/recipes").iterdir()},
 }
 

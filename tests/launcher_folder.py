@@ -98,18 +98,26 @@ class Folder(unittest.TestCase):
 
 
 class InstallFolder(Folder):
-    """A folder whose launcher installs, with a library for C that has one function."""
+    """A folder whose launcher installs, with a library for C that has one function, and a toolchain whose only library is std."""
 
     def setUp(self):
         super().setUp()
         for name in ("packaging", "include", "docs", "fixup"):
             shutil.copytree(ROOT / name, self.root / name)
+        self.add_to_kit("std", [], {})
         (self.root / "metaplay-fixup").symlink_to("fixup/metaplay-fixup")
         (self.folder / "c").mkdir()
         for name, path in [("metaplay_none", self.kit / "archive"), ("kit_none", self.folder / "c/liblibc_c.a")]:
             subprocess.run(["cc", "-x", "c", "-c", "-", "-o", self.kit / f"{name}.o"], input=f"void {name}(void) {{}}", text=True, check=True)
             subprocess.run(["ar", "rcs", path, self.kit / f"{name}.o"], check=True)
         self.prefix = self.folder / "installed"
+
+    def add_to_kit(self, name, uses, licences):
+        """The toolchain has a library of this name, which uses others, and has these licence files."""
+        for folder, files in ((f"rlibs/{name}.rlib", {"format": "".join(f"dep {it}\n" for it in uses)}), (f"rattle/{name}", licences)):
+            (self.folder / folder).mkdir(parents=True)
+            for file, text in files.items():
+                (self.folder / folder / file).write_text(text)
 
     def is_installed(self, built):
         """Checks that an installation goes well, after builds of these crates."""
