@@ -72,16 +72,22 @@ remove_one() {
     rm -f -- "$place/$3" || status=3
 }
 
-# Whether the commands are there that linking the library takes.
-can_link() {
-    # CC may have options after the command.
-    # shellcheck disable=SC2086
-    for command in rt ar $(printf '%s\n' ${CC:-cc} | head -n 1); do
+# Whether the commands are there that somebody needs.
+has_commands() {
+    needs=$1
+    shift
+    for command in "$@"; do
         if ! command -v "$command" >/dev/null; then
-            say "install needs $command, which is not on the PATH"
+            say "$needs needs $command, which is not on the PATH"
             return 1
         fi
     done
+}
+
+# Whether those are there that linking the library takes. CC may have options after the command.
+can_link() {
+    # shellcheck disable=SC2086
+    has_commands install rt ar "$(printf '%s\n' ${CC:-cc} | head -n 1)"
 }
 
 # A folder for what is linked, which is removed in the end, after a signal too.

@@ -1,0 +1,69 @@
+"""The shared library as the loader sees it: the names of the header with their version, nothing to write to after loading, and the caller's options."""
+
+import os
+import pathlib
+import re
+import subprocess
+import tempfile
+import unittest
+
+import archive
+from built import ROOT
+from launcher_folder import InstallFolder
+
+HEADER = (ROOT / "include/metaplay.h").read_text("ascii")
+
+# The names that the header declares.
+DECLARED = sorted(set(re.findall(r"(?m)^metaplay_answer (metaplay_\w+)\(", HEADER)))
+
+
+def said(option, library):
+    """What readelf prints about a library."""
+    return subprocess.run(["readelf", "-W", option, library], capture_output=True, text=True, check=True, env={**os.environ, "LC_ALL": "C"}).stdout
+
+
+def defined(library):
+    """The names that it defines for others."""
+    rows = [line.split() for line in said("--dyn-syms", library).splitlines() if re.match(r" *\d+:", line)]
+    return sorted(row[7] for row in rows if row[4] != "LOCAL" and row[6] != "UND")
+
+
+class Installed(unittest.TestCase):
+    """The library of this repository."""
+
+    @classmethod
+    def setUpClass(cls):
+        archive.have_built()
+        folder = tempfile.TemporaryDirectory()
+        cls.addClassCleanup(folder.cleanup)
+        prefix = pathlib.Path(folder.name)
+        subprocess.run([ROOT / "metaplay", "install", prefix], check=True)
+        cls.library = prefix / "lib/libmetaplay.so.1"
+
+    def test_each_name_of_the_header_has_the_version(self):
+        self.assertEqual(len(DECLARED), HEADER.count("\nmetaplay_answer metaplay_"))
+        self.assertEqual(defined(self.library), sorted(["METAPLAY_1", *(f"{name}@@METAPLAY_1" for name in DECLARED)]))
+
+    def test_nothing_can_be_written_to_after_loading(self):
+        self.assertRegex(said("-d", self.library), r"\(FLAGS\) +BIND_NOW\n")
+        self.assertRegex(said("-d", self.library), r"\(FLAGS_1\) +Flags: NOW\n")
+        self.assertIn(" GNU_RELRO ", said("-l", self.library))
+        self.assertRegex(said("-l", self.library), r" GNU_STACK .* RW  ")
+
+
+class Options(InstallFolder):
+    """A library with one function."""
+
+    def test_the_linker_gets_the_callers_options(self):
+        self.settings["LDFLAGS"] = "-Wl,--build-id=0x0123abcd -Wl,-z,lazy,-z,norelro"
+        self.is_installed(["low", "meta_main", "low", "metaplay_c"])
+        library = self.prefix / "lib/libmetaplay.so.1"
+        self.assertIn("Build ID: 0123abcd\n", said("-n", library))
+        # None of them takes ours back.
+        self.assertIn("BIND_NOW", said("-d", library))
+        self.assertIn("GNU_RELRO", said("-l", library))
+        self.assertEqual(defined(library), ["METAPLAY_1", "metaplay_none@@METAPLAY_1"])
+
+
+if __name__ == "__main__":
+    unittest.main()
