@@ -39,6 +39,7 @@ FILES = {
         **dict.fromkeys((f"share/doc/metaplay/{name}.md" for name in ("FAULTS", "FIXUP", "FORMATS", "PIXELS", "RECIPES")), False),
         **dict.fromkeys((f"share/doc/metaplay/{name}" for name in ("certify.schema.json", "fixup.png", "info.schema.json")), False),
         **{f"share/metaplay/recipes/{it.name}": os.access(it, os.X_OK) for it in (ROOT / "docs/recipes").iterdir()},
+        **{f"share/metaplay/{it.relative_to(ROOT)}": False for it in (ROOT / "samples").rglob("*.[ew]mf")},
     },
     "libmetaplay1": {f"{LIBRARIES}/libmetaplay.so.1": False},
     "libmetaplay-dev": {f"{LIBRARIES}/{name}": False for name in ("libmetaplay.a", "pkgconfig/metaplay.pc")} | {"include/metaplay.h": False},
@@ -145,7 +146,7 @@ class Packages(unittest.TestCase):
         for name in ("metaplay", "metaplay-fixup", "crates.txt", "CHANGELOG.md"):
             other.mkdir(exist_ok=True)
             shutil.copy2(ROOT / name, other / name, follow_symlinks=False)
-        for name in ("launcher", "packaging", "include", "docs", "fixup", *["python"] * MODULE.exists()):
+        for name in ("launcher", "packaging", "include", "docs", "fixup", "samples", *["python"] * MODULE.exists()):
             shutil.copytree(ROOT / name, other / name)
         shutil.copytree(ROOT / "crates", other / "crates", ignore=shutil.ignore_patterns("out"))
         for name, file in (("meta_main", "meta_main"), ("metaplay_c", "libmetaplay_c.a")):

@@ -36,6 +36,7 @@ INSTALLED = {
     **dict.fromkeys((f"share/doc/metaplay/{name}" for name in ("FAULTS.md", "FIXUP.md", "FORMATS.md", "PIXELS.md", "RECIPES.md")), False),
     **dict.fromkeys((f"share/doc/metaplay/{name}" for name in ("NOTICES", "certify.schema.json", "fixup.png", "info.schema.json")), False),
     **{f"share/metaplay/recipes/{it.name}": os.access(it, os.X_OK) for it in (ROOT / "docs/recipes").iterdir()},
+    **{f"share/metaplay/{it.relative_to(ROOT)}": False for it in (ROOT / "samples").rglob("*.[ew]mf")},
 }
 
 

@@ -102,8 +102,8 @@ class InstallFolder(Folder):
 
     def setUp(self):
         super().setUp()
-        for name in ("packaging", "include", "docs", "fixup"):
-            shutil.copytree(ROOT / name, self.root / name)
+        for name in ("packaging", "include", "docs", "fixup", "samples"):
+            shutil.copytree(ROOT / name, self.root / name, dirs_exist_ok=True)
         self.add_to_kit("std", [], {})
         (self.root / "metaplay-fixup").symlink_to("fixup/metaplay-fixup")
         (self.folder / "c").mkdir()
