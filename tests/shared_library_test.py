@@ -51,7 +51,7 @@ class Installed(unittest.TestCase):
         self.assertRegex(said("-l", self.library), r" GNU_STACK .* RW  ")
 
 
-class Options(InstallFolder):
+class Linked(InstallFolder):
     """A library with one function."""
 
     def test_the_linker_gets_the_callers_options(self):
@@ -63,6 +63,18 @@ class Options(InstallFolder):
         self.assertIn("BIND_NOW", said("-d", library))
         self.assertIn("GNU_RELRO", said("-l", library))
         self.assertEqual(defined(library), ["METAPLAY_1", "metaplay_none@@METAPLAY_1"])
+
+    def test_a_program_runs_that_was_linked_before_names_had_versions(self):
+        self.is_installed(["low", "meta_main", "low", "metaplay_c"])
+        old, program = self.folder / "old/libmetaplay.so.1", self.folder / "program"
+        old.parent.mkdir()
+        subprocess.run(["cc", "-shared", "-Wl,-soname,libmetaplay.so.1", "-o", old, self.kit / "metaplay_none.o"], check=True)
+        source = "void metaplay_none(void);\nint main(void) { metaplay_none(); return 7; }\n"
+        subprocess.run(["cc", "-x", "c", "-", "-x", "none", old, "-o", program], input=source, text=True, check=True)
+        self.assertNotIn("METAPLAY_1", said("--dyn-syms", program))
+        for folder in (old.parent, self.prefix / "lib"):
+            ran = subprocess.run([program], capture_output=True, text=True, check=False, env={**os.environ, "LD_LIBRARY_PATH": str(folder)})
+            self.assertEqual((ran.returncode, ran.stderr), (7, ""))
 
 
 if __name__ == "__main__":
