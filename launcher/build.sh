@@ -2,12 +2,9 @@
 # there are processors and memory.
 # shellcheck shell=sh disable=SC2154
 
-# How many seconds go by without a line of progress, at most.
-most_silent=30
-
-# Seconds as minutes, rounded to the nearest.
-minutes() {
-    echo $((($1 + 30) / 60))
+# A time in seconds, as a message says it: in minutes if it is long.
+span() {
+    if [ "$1" -lt 300 ]; then echo "$1 s"; else echo "$((($1 + 30) / 60)) min"; fi
 }
 
 # How many crates to build at a time: each needs two processors and 4 GiB.
@@ -18,17 +15,6 @@ most_at_a_time() {
     [ "${memory:-1}" -lt "$most" ] && most=${memory:-1}
     [ "$most" -lt 1 ] && most=1
     echo "$most"
-}
-
-# About how many seconds of processor the proofs of some crates take, as measured in one run of `rt ci` on a processor of
-# 2.5 GHz, with other programs running (launcher/seconds). A crate that isn't in that table counts a minute.
-seconds_of() {
-    for name in "$@"; do
-        awk -v name="$name" '
-            BEGIN { seconds = 60 }
-            $1 == name { seconds = $2 }
-            END { print seconds }' "$root/launcher/seconds"
-    done | awk '{ sum += $1 } END { print sum + 0 }'
 }
 
 # Proves and builds one crate, for the program with a run on a sample to see that it works. Leaves its seconds in
@@ -72,14 +58,70 @@ begin_ready() {
     done
 }
 
-# How long it took so far and, once a crate is built, about how long it will take: by the table, and by how much slower
-# or faster than it this build was so far.
+# What is known of the build, a line each: how long each crate takes by launcher/seconds, which has seconds of processor
+# of one run; the crates with the libraries below them; and the seconds of those that are begun and of those that are
+# built.
+known() {
+    sed 's/^/said /' "$root/launcher/seconds"
+    crates | sed 's/^/crate /'
+    for file in "$logs"/*.begun; do
+        echo "begun $(basename "$file" .begun) $(($(date +%s) - $(cut -d ' ' -f 2 "$file")))"
+    done
+    for file in "$logs"/*.done; do
+        [ ! -e "$file" ] || echo "built $(basename "$file" .done) $(cat "$file")"
+    done
+}
+
+# About how many seconds are to come, by that: the build is gone through to its end, with as many crates at a time as
+# now. Crates take as much longer or shorter than the table says as those did that are built, and a crate that isn't in
+# the table a minute of it. What takes longer already goes on for another tenth.
+to_come() {
+    known | awk -v most="$most" '
+        function by_table(name) { return name in said ? said[name] : 60 }
+        function is_ready(name,  its, i, number) {
+            number = split(below[name], its)
+            for (i = 1; i <= number; i++) if (its[i] in below && !(its[i] in ended)) return 0
+            return 1
+        }
+        $1 == "said" { said[$2] = $3 }
+        $1 == "crate" { names[++count] = $2; sub(/^crate [^ ]* */, ""); below[names[count]] = $0 }
+        $1 == "begun" { since[$2] = $3 }
+        $1 == "built" { ended[$2]; took += $3; table += by_table($2) }
+        END {
+            for (name in since) if (!(name in ended) && since[name] * table > by_table(name) * took) {
+                more += since[name] * 1.1
+                more_table += by_table(name)
+            }
+            slower = (took + more) / (table + more_table)
+            for (name in since) if (!(name in ended)) {
+                left = by_table(name) * slower - since[name]
+                ends[name] = left > since[name] / 10 ? left : since[name] / 10
+                running++
+            }
+            for (;;) {
+                for (i = 1; i <= count && running < most; i++) {
+                    name = names[i]
+                    if (name in ended || name in ends || !is_ready(name)) continue
+                    ends[name] = now + by_table(name) * slower
+                    running++
+                }
+                if (!running) break
+                first = ""
+                for (name in ends) if (first == "" || ends[name] < ends[first]) first = name
+                now = ends[first]
+                delete ends[first]
+                ended[first]
+                running--
+            }
+            print int(now + 0.5)
+        }'
+}
+
+# How long it took so far and, once a crate is built, about how long it will take.
 duration() {
-    so_far=$(($(date +%s) - start))
-    if [ "$ended_seconds" -gt 0 ]; then
-        to_come=", to come about $(minutes $((so_far * (all_seconds - ended_seconds) / ended_seconds)))"
-    fi
-    echo "minutes so far $(minutes "$so_far")${to_come-}"
+    left=
+    if [ "$reported" -gt 0 ] && [ "$reported" -lt "$total" ]; then left=", about $(span "$(to_come)") to come"; fi
+    echo "$(span $(($(date +%s) - start))) so far$left"
 }
 
 # Reports each crate that is built by now, once.
@@ -90,7 +132,6 @@ report_built() {
         reported=$((reported + 1))
         last=$(date +%s)
         name=$(basename "$file" .done)
-        ended_seconds=$((ended_seconds + $(seconds_of "$name")))
         say "$name proved and built in $(cat "$file") s ($reported of $total); $(duration)"
     done
 }
@@ -137,9 +178,6 @@ build() {
     total=$(crates | wc -l)
     most=$(most_at_a_time)
     reported=0
-    ended_seconds=0
-    # shellcheck disable=SC2046
-    all_seconds=$(seconds_of $(crates | cut -d ' ' -f 1))
     start=$(date +%s)
     last=$start
     write_version || return 1
@@ -152,7 +190,7 @@ build() {
     build_crates || return 1
     record_built "$sum" || return 1
     rm -rf "$logs"
-    say "built in $(($(date +%s) - start)) s"
+    say "built in $(span $(($(date +%s) - start)))"
 }
 
 # The same, unless another process is building: then waits until that ends, and builds what it didn't. The lock ends
@@ -167,7 +205,11 @@ build_alone() {
         return 1
     fi
     logs=$made/build.$$
-    mkdir -p "$made" && exec 9>"$made/lock" || return 1
+    if ! { mkdir -p "$made" && touch "$made/lock"; } 2>/dev/null; then
+        say "cannot write to $made, where it has to be built"
+        return 1
+    fi
+    exec 9>"$made/lock"
     if ! flock -n 9; then
         say "another build is running; waiting for it ..."
         flock 9

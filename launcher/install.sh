@@ -1,6 +1,6 @@
 # `metaplay install PREFIX` and `metaplay uninstall PREFIX`: the proved program, its manual page, completions for three
-# shells, the recipes, samples, pages, the proved library for C, and metaplay-fixup. DESTDIR, if it is set, stands before
-# each path, as packagers need it.
+# shells, recipes, samples, pages, the proved library for C, and metaplay-fixup. DESTDIR, if it is set, stands before each
+# path, as packagers need it.
 # shellcheck shell=sh disable=SC2154
 
 # shellcheck source=launcher/library.sh

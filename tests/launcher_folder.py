@@ -9,16 +9,18 @@ import unittest
 
 from built import ROOT
 
-# The toolchain's command. It writes down each call and waits as long as the file `seconds` says. A program that it builds prints the source.
+# The toolchain's command. It writes down each call of a build, and waits as long as the file `seconds` says. A program that it builds prints the
+# source.
 RT = """#!/bin/sh
 kit=$(dirname "$0")/../kit
 case $1 in
     version) cat "$kit/version"; exit ;;
-    try) echo "tried $*"; exit ;;
+    try) sleep "$(cat "$kit/seconds")"; echo "tried $*"; exit ;;
 esac
 echo "$(basename "$PWD")" >>"$kit/calls"
 [ -e "$kit/says" ] && cat "$kit/says"
-sleep "$(cat "$kit/seconds")"
+own=$kit/seconds.$(basename "$PWD")
+if [ -e "$own" ]; then sleep "$(cat "$own")"; else sleep "$(cat "$kit/seconds")"; fi
 [ -e "$kit/fails" ] && exit 1
 [ -e "$kit/changes" ] && echo "// changed" >>../low/src/lib.rt
 if [ "$1" = run ]; then

@@ -24,7 +24,8 @@ class Launcher(Folder):
 
     def test_it_builds_once(self):
         err = self.is_run("first", ["low", "meta_main"])
-        self.assertRegex(err, r"metaplay: low proved and built in \d+ s \(1 of 2\); minutes so far 0, to come about")
+        self.assertRegex(err, r"metaplay: low proved and built in \d+ s \(1 of 2\); \d+ s so far, about \d+ s to come\n")
+        self.assertRegex(err, r"metaplay: meta_main proved and built in \d+ s \(2 of 2\); \d+ s so far\nmetaplay: built in \d+ s\n\Z")
         self.assertEqual(self.is_run("first", []), "")
         self.assertEqual(sorted(path.name for path in (self.root / "crates/meta_main/out").iterdir()), ["built.list", "built.sums", "lock", "meta_main"])
 
@@ -186,26 +187,40 @@ class Launcher(Folder):
         self.assertEqual((status, out, self.calls()), (3, "", ["low"]))
         self.assertRegex(err, r"metaplay: low could not be built; see .*/low\.log\n$")
 
+    def report_often(self):
+        """Has the launcher report each second."""
+        program = self.root / "launcher/program.sh"
+        text = program.read_text()
+        self.assertIn("\nmost_silent=30\n", text)
+        program.write_text(text.replace("\nmost_silent=30\n", "\nmost_silent=1\n"))
+
     def test_a_long_build_reports_where_it_is(self):
-        build = self.root / "launcher/build.sh"
-        build.write_text(build.read_text().replace("most_silent=30\n", "most_silent=1\n"))
+        self.report_often()
         (self.kit / "seconds").write_text("3")
         (self.kit / "says").write_text("so far: 7 of 9 functions\nso far: 8 of 9 functions\n")
         err = self.is_run("first", ["low", "meta_main"])
-        self.assertRegex(err, r"metaplay: proving low: \d+ s, 8 of 9 functions; minutes so far 0\n")
+        self.assertRegex(err, r"metaplay: proving low: \d+ s, 8 of 9 functions; \d+ s so far\n")
 
-    def test_the_time_to_come_is_estimated_by_the_table(self):
-        # The lowest crate takes a second or more, and the program is said to take 59 times as long.
-        self.write("launcher/seconds", "low 1\nmeta_main 59\n")
-        (self.kit / "seconds").write_text("1.2")
-        start = time.monotonic()
-        err = self.is_run("first", ["low", "meta_main"])
-        seconds = time.monotonic() - start
-        minutes = int(re.search(r"low proved .*, to come about (\d+)\n", err)[1])
-        self.assertTrue(1 <= minutes <= seconds + 1, err)
-        self.write("launcher/seconds", "other 1\n")
-        self.write("crates/low/src/lib.rt", "changed\n")
-        self.assertRegex(self.is_run("first", ["low", "meta_main"]), r"low proved .*, to come about 0\n")
+    def test_a_trial_reports_its_seconds(self):
+        self.report_often()
+        (self.kit / "seconds").write_text("3.5")
+        status, out, err = self.call("try", "stdin", "4", "4")
+        self.assertEqual((status, out), (0, "tried try -- show stdin 4 4\n"))
+        first, *others = err.splitlines()
+        self.assertTrue(first.startswith("metaplay: a trial, in which nothing is proved: "), err)
+        seconds = [int(re.fullmatch(r"metaplay: a trial: (\d+) s so far", line)[1]) for line in others]
+        self.assertTrue(seconds == sorted(seconds) and 2 <= len(seconds) <= 4 and 1 <= seconds[0] and seconds[-1] <= 5, err)
+
+    def test_a_trial_that_is_stopped_reports_nothing_more(self):
+        self.report_often()
+        (self.kit / "seconds").write_text("50")
+        run = self.begin("try", "stdin", "4", "4")
+        self.addCleanup(self.kill_group, run.pid)
+        self.wait_for(self.is_building)
+        os.killpg(run.pid, signal.SIGTERM)
+        # What reports would hold standard error open.
+        out, _ = run.communicate(timeout=20)
+        self.assertEqual((run.returncode, out), (-signal.SIGTERM, ""))
 
     def test_without_a_list_of_crates_nothing_runs(self):
         self.is_run("first", ["low", "meta_main"])
@@ -223,6 +238,68 @@ class Launcher(Folder):
         self.assertEqual(self.call("try", sample, "8192", "8192")[0], 2)
         for missing in [self.root / "no file", self.root]:
             self.assertEqual(self.call("try", missing, "4", "4"), (3, "", "metaplay: cannot read\n"))
+
+
+class Others(Folder):
+    """A folder of somebody else, who lets others read it only."""
+
+    def setUp(self):
+        super().setUp()
+        self.folder.chmod(0o755)
+        self.kit.chmod(0o777)
+
+    def lock(self, *names):
+        """Has nobody write to these folders of the launcher's. Root could all the same, and so calls it as another user."""
+        for folder in (self.root / name for name in names):
+            for path in [folder, *folder.rglob("*")]:
+                mode = path.stat().st_mode & 0o777
+                path.chmod(mode & 0o555)
+                self.addCleanup(path.chmod, mode)
+
+    def call_as_other(self, *words):
+        """The launcher's status, its output, and its messages."""
+        who = {"user": 65534, "group": 65534, "extra_groups": []} if os.geteuid() == 0 else {}
+        ran = subprocess.run([self.root / "metaplay", *words], stdin=subprocess.DEVNULL, capture_output=True, text=True, check=False, env=self.settings, **who)
+        return ran.returncode, ran.stdout, ran.stderr
+
+    def test_a_changed_folder_is_status_3(self):
+        self.is_run("first", ["low", "meta_main"])
+        self.write("crates/low/src/lib.rt", "changed")
+        self.lock("crates")
+        told = f"metaplay: cannot write to {self.root}/crates/meta_main/out, where it has to be built\n"
+        for words in (["list", "x"], ["--help"], ["--version"], ["install", "/none"]):
+            self.assertEqual((self.call_as_other(*words), self.calls()), ((3, "", told), []), words)
+        self.assertEqual(self.call_as_other("try", "stdin", "4", "4")[:2], (0, "tried try -- show stdin 4 4\n"))
+
+    def test_a_folder_in_which_nothing_is_built_is_status_3(self):
+        self.lock("crates")
+        told = f"metaplay: cannot write to {self.root}/crates/meta_main/out, where it has to be built\n"
+        self.assertEqual((self.call_as_other("list", "x"), self.calls()), ((3, "", told), []))
+
+    def test_a_program_that_is_built_runs(self):
+        self.is_run("first", ["low", "meta_main"])
+        for path in self.root.rglob("*"):
+            os.utime(path, (2_000_000_000, 2_000_000_000))
+        self.lock("crates")
+        self.assertEqual((self.call_as_other("list", "x"), self.calls()), ((0, "first\n", ""), []))
+
+    def test_a_version_that_cannot_be_written_is_status_3(self):
+        (self.root / "crates/meta_main/out").mkdir()
+        (self.root / "crates/meta_main/out").chmod(0o777)
+        self.lock("crates/meta_main/src")
+        told = f"metaplay: cannot write {self.root}/crates/meta_main/src/version.rt\n"
+        self.assertEqual((self.call_as_other("list", "x"), self.calls()), ((3, "", told), []))
+
+    def test_a_library_that_cannot_be_built_is_status_3(self):
+        for name in ("out", "src"):
+            (self.root / "crates/meta_main" / name).mkdir(exist_ok=True)
+            (self.root / "crates/meta_main" / name).chmod(0o777)
+        rt = self.folder / "bin/rt"
+        rt.write_text(rt.read_text().replace("exit 0\n", "mkdir -p out && touch out/made\n"))
+        self.lock("crates/low")
+        status, out, err = self.call_as_other("list", "x")
+        self.assertEqual((status, out, self.calls()), (3, "", ["low"]))
+        self.assertRegex(err, r"metaplay: low could not be built; see .*/low\.log\n$")
 
 
 class Put(unittest.TestCase):
