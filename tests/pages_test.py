@@ -67,6 +67,7 @@ OTHERS = {
     "packaging/make_deb FOLDER": "a command of a packager",
     "packaging/make_fixup_deb FILE": "a command of a packager",
     "python3": "a program",
+    "readelf": "a program",
     "realloc": "a call of the C library's",
     "rattle-kit-13f logic dac8208d650f15bf": "a version of the toolchain",
     "requires": "a word of contracts",
