@@ -11,6 +11,7 @@ import unittest
 
 import archive
 from built import DOT, DOT_IMAGE, ROOT, Answer, answer
+from fixup_package_test import WANTED
 from launcher_folder import files_in
 
 MAKER = ROOT / "packaging/make_deb"
@@ -98,6 +99,11 @@ class Packages(unittest.TestCase):
                 modes = {line.split()[0] for line in self.said(name, "-c").splitlines()}
                 self.assertEqual(modes - {"drwxr-xr-x", "-rw-r--r--"}, {"metaplay": {"-rwxr-xr-x"}, "libmetaplay-dev": {"lrwxrwxrwx"}}.get(name, set()))
         self.assertEqual(os.readlink(self.whole / f"usr/{LIBRARIES}/libmetaplay.so"), "libmetaplay.so.1")
+
+    def test_no_file_is_in_two_packages(self):
+        files = [[line.split()[5] for line in self.said(name, "-c").splitlines() if line[0] != "d"] for name in NAMES]
+        files.append([f"./usr/{name}" for name in WANTED])
+        self.assertEqual(len(set().union(*files)), sum(map(len, files)))
 
     def test_what_they_need(self):
         for name, file in (("metaplay", "bin/metaplay"), ("libmetaplay1", f"{LIBRARIES}/libmetaplay.so.1")):
