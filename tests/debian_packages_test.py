@@ -34,6 +34,7 @@ FILES = {
     "metaplay": {
         "bin/metaplay": True,
         "share/man/man1/metaplay.1.gz": False,
+        "share/lintian/overrides/metaplay": False,
         "share/bash-completion/completions/metaplay": False,
         "share/zsh/vendor-completions/_metaplay": False,
         "share/fish/vendor_completions.d/metaplay.fish": False,
