@@ -95,15 +95,13 @@ to_come() {
             slower = (took + more) / (table + more_table)
             for (name in since) if (!(name in ended)) {
                 left = by_table(name) * slower - since[name]
-                ends[name] = left > since[name] / 10 ? left : since[name] / 10
-                running++
+                ends[name] = left > since[name] / 10 ? left : since[name] / 10; running++
             }
             for (;;) {
                 for (i = 1; i <= count && running < most; i++) {
                     name = names[i]
                     if (name in ended || name in ends || !is_ready(name)) continue
-                    ends[name] = now + by_table(name) * slower
-                    running++
+                    ends[name] = now + by_table(name) * slower; running++
                 }
                 if (!running) break
                 first = ""

@@ -78,7 +78,7 @@ class Pages(InstallFolder):
         self.prefix.mkdir()
         (self.prefix / "there.emf").write_text("")
         page = f"[A](README.md) `docs/a`, `launcher/record`\n\n```sh\na \\\n  samples/b {self.prefix}/there.emf {self.prefix}/no.emf\n```\n\n"
-        page += "```\n$ c bench/d |\n> cat tests/e\nout docs/f\n```\n\n`DECISIONS.md`, `drawing.emf`, [b](https://example.com/README.md), docs/g, `it's docs/h`\n"
+        page += "```\n$ c bench/d |\n> cat tests/e\nout docs/f\n```\n\n`DECISIONS.md`, `drawing.emf`, [b](https://a.example/README.md), docs/g, `it's docs/h`\n"
         wrong = ["README.md", "docs/a", "launcher/record", "DECISIONS.md", "samples/b", f"{self.prefix}/no.emf", "bench/d", "tests/e"]
         self.assertEqual(list(dict.fromkeys(self.wrong(page))), wrong)
 

@@ -1,10 +1,13 @@
 """A folder with the launcher. A script stands in for the toolchain, since a real build takes half an hour."""
 
+import contextlib
 import os
 import pathlib
 import shutil
+import signal
 import subprocess
 import tempfile
+import time
 import unittest
 
 from built import ROOT
@@ -91,6 +94,35 @@ class Folder(unittest.TestCase):
         names = path.read_text().split() if path.exists() else []
         path.unlink(missing_ok=True)
         return names
+
+    def report_often(self):
+        """Has the launcher report each second."""
+        program = self.root / "launcher/program.sh"
+        text = program.read_text()
+        self.assertIn("\nmost_silent=30\n", text)
+        program.write_text(text.replace("\nmost_silent=30\n", "\nmost_silent=1\n"))
+
+    def is_building(self):
+        """Whether the toolchain still runs."""
+        name = f"\0{self.folder}/bin/rt\0".encode()
+        for process in pathlib.Path("/proc").glob("[0-9]*/cmdline"):
+            # (a process may end meanwhile)
+            with contextlib.suppress(OSError):
+                if name in process.read_bytes():
+                    return True
+        return False
+
+    def kill_group(self, group):
+        """Kills what is left of a group of processes."""
+        with contextlib.suppress(ProcessLookupError):
+            os.killpg(group, signal.SIGKILL)
+
+    def wait_for(self, is_there):
+        """Waits until something is there."""
+        end = time.monotonic() + 20
+        while not is_there() and time.monotonic() < end:
+            time.sleep(0.05)
+        self.assertTrue(is_there())
 
     def is_run(self, text, built, **how):
         """Checks that a call runs the program, which prints this text, after builds of these crates."""

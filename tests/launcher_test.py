@@ -1,9 +1,7 @@
 """The launcher: when it builds, when it doesn't, and what it does meanwhile."""
 
-import contextlib
 import os
 import pathlib
-import re
 import resource
 import shutil
 import signal
@@ -45,11 +43,6 @@ class Launcher(Folder):
         for launcher in (odd / "to *'\" it", moved / "metaplay"):
             ran = subprocess.run([launcher, *words], capture_output=True, text=True, check=False, cwd=self.root, env=self.settings)
             self.assertEqual((ran.returncode, ran.stdout, ran.stderr), (0, f"words\n{wanted}", ""))
-
-    def test_a_trial_takes_a_file_of_any_name(self):
-        for name in ["a b", "*", "it's", '"q"', "$HOME", "-n", "a\\b", "stdin "]:
-            (self.root / name).write_text("")
-            self.assertEqual(self.call("try", self.root / name, "4", "4")[:2], (0, "tried try -- show stdin 4 4\n"), name)
 
     def test_times_alone_change_nothing(self):
         self.is_run("first", ["low", "meta_main"])
@@ -150,28 +143,6 @@ class Launcher(Folder):
             self.wait_for(lambda: not self.is_building())
             self.assertEqual(sorted(path.name for path in (self.root / "crates/meta_main/out").iterdir()), ["lock"])
 
-    def is_building(self):
-        """Whether the toolchain still runs."""
-        name = f"\0{self.folder}/bin/rt\0".encode()
-        for process in pathlib.Path("/proc").glob("[0-9]*/cmdline"):
-            # (a process may end meanwhile)
-            with contextlib.suppress(OSError):
-                if name in process.read_bytes():
-                    return True
-        return False
-
-    def kill_group(self, group):
-        """Kills what is left of a group of processes."""
-        with contextlib.suppress(ProcessLookupError):
-            os.killpg(group, signal.SIGKILL)
-
-    def wait_for(self, is_there):
-        """Waits until something is there."""
-        end = time.monotonic() + 20
-        while not is_there() and time.monotonic() < end:
-            time.sleep(0.05)
-        self.assertTrue(is_there())
-
     def test_what_changes_meanwhile_is_not_proved(self):
         (self.kit / "changes").touch()
         status, out, err = self.call("list", "x")
@@ -187,13 +158,6 @@ class Launcher(Folder):
         self.assertEqual((status, out, self.calls()), (3, "", ["low"]))
         self.assertRegex(err, r"metaplay: low could not be built; see .*/low\.log\n$")
 
-    def report_often(self):
-        """Has the launcher report each second."""
-        program = self.root / "launcher/program.sh"
-        text = program.read_text()
-        self.assertIn("\nmost_silent=30\n", text)
-        program.write_text(text.replace("\nmost_silent=30\n", "\nmost_silent=1\n"))
-
     def test_a_long_build_reports_where_it_is(self):
         self.report_often()
         (self.kit / "seconds").write_text("3")
@@ -201,105 +165,10 @@ class Launcher(Folder):
         err = self.is_run("first", ["low", "meta_main"])
         self.assertRegex(err, r"metaplay: proving low: \d+ s, 8 of 9 functions; \d+ s so far\n")
 
-    def test_a_trial_reports_its_seconds(self):
-        self.report_often()
-        (self.kit / "seconds").write_text("3.5")
-        status, out, err = self.call("try", "stdin", "4", "4")
-        self.assertEqual((status, out), (0, "tried try -- show stdin 4 4\n"))
-        first, *others = err.splitlines()
-        self.assertTrue(first.startswith("metaplay: a trial, in which nothing is proved: "), err)
-        seconds = [int(re.fullmatch(r"metaplay: a trial: (\d+) s so far", line)[1]) for line in others]
-        self.assertTrue(seconds == sorted(seconds) and 2 <= len(seconds) <= 4 and 1 <= seconds[0] and seconds[-1] <= 5, err)
-
-    def test_a_trial_that_is_stopped_reports_nothing_more(self):
-        self.report_often()
-        (self.kit / "seconds").write_text("50")
-        run = self.begin("try", "stdin", "4", "4")
-        self.addCleanup(self.kill_group, run.pid)
-        self.wait_for(self.is_building)
-        os.killpg(run.pid, signal.SIGTERM)
-        # What reports would hold standard error open.
-        out, _ = run.communicate(timeout=20)
-        self.assertEqual((run.returncode, out), (-signal.SIGTERM, ""))
-
     def test_without_a_list_of_crates_nothing_runs(self):
         self.is_run("first", ["low", "meta_main"])
         (self.root / "crates.txt").unlink()
         self.assertEqual(self.call("list", "x"), (3, "", "metaplay: crates.txt is missing\n"))
-
-    def test_a_trial_takes_the_sides_that_show_takes(self):
-        sample = self.root / "samples/dot.wmf"
-        for given, side in [("4", "4"), ("08", "8"), ("+9", "9"), ("000000000064", "64")]:
-            status, out, _ = self.call("try", sample, given, given)
-            self.assertEqual((status, out), (0, f"tried try -- show stdin {side} {side}\n"))
-        for given in ["0", "00", "", "+", "-4", "++4", "4+", "8193", "0x8", "8 ", "4.0", "99999999999999999999"]:
-            status, out, err = self.call("try", sample, given, "4")
-            self.assertEqual((status, out, err[:15]), (2, "", "metaplay: usage"), given)
-        self.assertEqual(self.call("try", sample, "8192", "8192")[0], 2)
-        for missing in [self.root / "no file", self.root]:
-            self.assertEqual(self.call("try", missing, "4", "4"), (3, "", "metaplay: cannot read\n"))
-
-
-class Others(Folder):
-    """A folder of somebody else, who lets others read it only."""
-
-    def setUp(self):
-        super().setUp()
-        self.folder.chmod(0o755)
-        self.kit.chmod(0o777)
-
-    def lock(self, *names):
-        """Has nobody write to these folders of the launcher's. Root could all the same, and so calls it as another user."""
-        for folder in (self.root / name for name in names):
-            for path in [folder, *folder.rglob("*")]:
-                mode = path.stat().st_mode & 0o777
-                path.chmod(mode & 0o555)
-                self.addCleanup(path.chmod, mode)
-
-    def call_as_other(self, *words):
-        """The launcher's status, its output, and its messages."""
-        who = {"user": 65534, "group": 65534, "extra_groups": []} if os.geteuid() == 0 else {}
-        ran = subprocess.run([self.root / "metaplay", *words], stdin=subprocess.DEVNULL, capture_output=True, text=True, check=False, env=self.settings, **who)
-        return ran.returncode, ran.stdout, ran.stderr
-
-    def test_a_changed_folder_is_status_3(self):
-        self.is_run("first", ["low", "meta_main"])
-        self.write("crates/low/src/lib.rt", "changed")
-        self.lock("crates")
-        told = f"metaplay: cannot write to {self.root}/crates/meta_main/out, where it has to be built\n"
-        for words in (["list", "x"], ["--help"], ["--version"], ["install", "/none"]):
-            self.assertEqual((self.call_as_other(*words), self.calls()), ((3, "", told), []), words)
-        self.assertEqual(self.call_as_other("try", "stdin", "4", "4")[:2], (0, "tried try -- show stdin 4 4\n"))
-
-    def test_a_folder_in_which_nothing_is_built_is_status_3(self):
-        self.lock("crates")
-        told = f"metaplay: cannot write to {self.root}/crates/meta_main/out, where it has to be built\n"
-        self.assertEqual((self.call_as_other("list", "x"), self.calls()), ((3, "", told), []))
-
-    def test_a_program_that_is_built_runs(self):
-        self.is_run("first", ["low", "meta_main"])
-        for path in self.root.rglob("*"):
-            os.utime(path, (2_000_000_000, 2_000_000_000))
-        self.lock("crates")
-        self.assertEqual((self.call_as_other("list", "x"), self.calls()), ((0, "first\n", ""), []))
-
-    def test_a_version_that_cannot_be_written_is_status_3(self):
-        (self.root / "crates/meta_main/out").mkdir()
-        (self.root / "crates/meta_main/out").chmod(0o777)
-        self.lock("crates/meta_main/src")
-        told = f"metaplay: cannot write {self.root}/crates/meta_main/src/version.rt\n"
-        self.assertEqual((self.call_as_other("list", "x"), self.calls()), ((3, "", told), []))
-
-    def test_a_library_that_cannot_be_built_is_status_3(self):
-        for name in ("out", "src"):
-            (self.root / "crates/meta_main" / name).mkdir(exist_ok=True)
-            (self.root / "crates/meta_main" / name).chmod(0o777)
-        rt = self.folder / "bin/rt"
-        rt.write_text(rt.read_text().replace("exit 0\n", "mkdir -p out && touch out/made\n"))
-        self.lock("crates/low")
-        status, out, err = self.call_as_other("list", "x")
-        self.assertEqual((status, out, self.calls()), (3, "", ["low"]))
-        self.assertRegex(err, r"metaplay: low could not be built; see .*/low\.log\n$")
 
 
 class Put(unittest.TestCase):

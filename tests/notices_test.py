@@ -76,7 +76,7 @@ class Page(unittest.TestCase):
 
     def test_a_library_has_no_other_file_about_rights(self):
         for name in below("meta_main") | below("metaplay_c"):
-            others = [it.name for it in (KIT / "rattle" / name).iterdir() if re.match("(?i)notice|copying|copyright|authors|patents|licence|unlicense", it.name)]
+            others = [it.name for it in (KIT / "rattle" / name).iterdir() if re.match("(?i)notice|copy|authors|patents|licence|unlicense", it.name)]
             self.assertEqual(others, [], name)
 
 
