@@ -22,7 +22,7 @@ class Launcher(Folder):
 
     def test_it_builds_once(self):
         err = self.is_run("first", ["low", "meta_main"])
-        self.assertRegex(err, r"metaplay: low proved and built in \d+ s \(1 of 2\); \d+ s so far, about \d+ s to come\n")
+        self.assertRegex(err, r"metaplay: low proved and built in \d+ s \(1 of 2\); \d+ s so far(?:, about \d+ s to come)?\n")
         self.assertRegex(err, r"metaplay: meta_main proved and built in \d+ s \(2 of 2\); \d+ s so far\nmetaplay: built in \d+ s\n\Z")
         self.assertEqual(self.is_run("first", []), "")
         self.assertEqual(sorted(path.name for path in (self.root / "crates/meta_main/out").iterdir()), ["built.list", "built.sums", "lock", "meta_main"])

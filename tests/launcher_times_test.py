@@ -37,13 +37,9 @@ class Times(Folder):
         for name in crates():
             self.write(f"crates/{name}/src/lib.rt", name)
 
-    def lines(self, most, factor, spread):
-        """Builds so many crates at a time, and gives the lines about crates that are built, each with the seconds that were still to come. A crate takes so
-        many times what the table says, and up to so much more or less, by its name."""
-        build = self.root / "launcher/build.sh"
-        text = build.read_text()
-        self.assertIn("\n    most=$(most_at_a_time)\n", text)
-        build.write_text(text.replace("\n    most=$(most_at_a_time)\n", f"\n    most={most}\n"))
+    def lines(self, factor, spread):
+        """Builds, and gives the lines about crates that are built, each with the seconds that were still to come. A crate takes so many times what the
+        table says, and up to so much more or less, by its name."""
         for name, seconds in crates().items():
             chance = hashlib.sha256(name.encode()).digest()[0] / 255
             (self.kit / f"seconds.{name}").write_text(str(seconds * factor * (1 + spread * (2 * chance - 1))))
@@ -55,9 +51,8 @@ class Times(Folder):
         end = time.monotonic()
         return [((end - at) * FAST, line) for at, line in found if " proved and built in " in line]
 
-    def check(self, *how):
-        """Checks that from the third crate on each line is right, up to a third, about what is to come."""
-        lines = self.lines(*how)
+    def test_from_the_third_crate_on_what_is_to_come_is_right_up_to_a_third(self):
+        lines = self.lines(0.2, 0.3)
         self.assertEqual(len(lines), len(crates()))
         wrong = []
         for left, line in lines[2:-1]:
@@ -67,12 +62,7 @@ class Times(Folder):
             if abs(said - left) > left / 3 + FAST:
                 wrong.append((round(left), line))
         self.assertEqual(wrong, [])
-
-    def test_a_machine_with_four_processors(self):
-        self.check(2, 0.3, 0.3)
-
-    def test_a_machine_with_eight_processors(self):
-        self.check(4, 0.3, 0.3)
+        self.assertNotIn("to come", lines[-1][1])
 
 
 if __name__ == "__main__":
