@@ -19,13 +19,14 @@ IMAGE = [("Run", "Run"), ("Run", "RunWrites"), ("Ppm", "ppm_text")]
 # The calls of which README promises something, by crate.
 CALLS = {
     "preflight_cert": ["check", "prepare", "prepared_law", "preparation_law"],
-    "player": ["play", "play_bands"],
+    "player": ["play", "play_bands", "play_rows"],
     "commands": [
         *("show_command_by", "prepare_command_by", "check_command", "play_command", "over_command", "list_command", "list_command_by"),
         *("batch_command", "run_words"),
     ],
     "metaplay_c": [
         *("metaplay_check", "metaplay_prepare", "metaplay_prepare_print", "metaplay_play", "metaplay_fitted_sides"),
+        *("metaplay_play_rows", "metaplay_over"),
         *("metaplay_certificate_terms", "metaplay_fault_name"),
     ],
 }

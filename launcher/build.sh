@@ -1,34 +1,10 @@
-# Proves and builds the program or the library for C: crate by crate, as crates.txt lists them, and side by side where
-# there are processors and memory.
+# Proves and builds the program or the library for C, crate by crate, as crates.txt lists them. The toolchain takes all
+# processors for a crate, and locks those below it, so two at a time would take no less time.
 # shellcheck shell=sh disable=SC2154
 
-# How many seconds go by without a line of progress, at most.
-most_silent=30
-
-# Seconds as minutes, rounded to the nearest.
-minutes() {
-    echo $((($1 + 30) / 60))
-}
-
-# How many crates to build at a time: each needs two processors and 4 GiB.
-most_at_a_time() {
-    processors=$(getconf _NPROCESSORS_ONLN 2>/dev/null || echo 1)
-    memory=$(awk '/^MemAvailable:/ { print int($2 / 4194304) }' /proc/meminfo 2>/dev/null)
-    most=$((processors / 2))
-    [ "${memory:-1}" -lt "$most" ] && most=${memory:-1}
-    [ "$most" -lt 1 ] && most=1
-    echo "$most"
-}
-
-# About how many seconds of processor the proofs of some crates take, as measured in one run of `rt ci` on a processor of
-# 2.5 GHz, with other programs running (launcher/seconds). A crate that isn't in that table counts a minute.
-seconds_of() {
-    for name in "$@"; do
-        awk -v name="$name" '
-            BEGIN { seconds = 60 }
-            $1 == name { seconds = $2 }
-            END { print seconds }' "$root/launcher/seconds"
-    done | awk '{ sum += $1 } END { print sum + 0 }'
+# A time in seconds, as a message says it: in minutes if it is long.
+span() {
+    if [ "$1" -lt 300 ]; then echo "$1 s"; else echo "$((($1 + 30) / 60)) min"; fi
 }
 
 # Proves and builds one crate, for the program with a run on a sample to see that it works. Leaves its seconds in
@@ -48,98 +24,86 @@ build_crate() {
     echo $(($(date +%s) - begun)) | put "$logs/$name.$end"
 }
 
-# Whether a crate isn't begun yet, and all libraries below it are built.
-is_ready() {
-    [ -e "$logs/$1.begun" ] && return 1
-    shift
-    for library in "$@"; do
-        [ -d "$root/crates/$library" ] && [ ! -e "$logs/$library.done" ] && return 1
-    done
-    return 0
-}
-
-# Begins the crates that are ready, as many as may run at a time. They don't keep the lock if this process is killed.
-begin_ready() {
-    crates | while read -r name libraries; do
-        begun=$(find "$logs" -name '*.begun' | wc -l)
-        ended=$(find "$logs" -name '*.done' | wc -l)
-        [ $((begun - ended)) -lt "$most" ] || break
-        # shellcheck disable=SC2086
-        if is_ready "$name" $libraries; then
-            (exec 9>&- && build_crate "$name") &
-            echo "$! $(date +%s)" >"$logs/$name.begun"
-        fi
-    done
-}
-
-# How long it took so far and, once a crate is built, about how long it will take: by the table, and by how much slower
-# or faster than it this build was so far.
-duration() {
-    so_far=$(($(date +%s) - start))
-    if [ "$ended_seconds" -gt 0 ]; then
-        to_come=", to come about $(minutes $((so_far * (all_seconds - ended_seconds) / ended_seconds)))"
-    fi
-    echo "minutes so far $(minutes "$so_far")${to_come-}"
-}
-
-# Reports each crate that is built by now, once.
-report_built() {
+# What is known of the build, a line each: how long each crate takes by launcher/seconds, which has seconds of processor
+# of one run; the seconds of those that are built and of the one that is being built; and all crates.
+known() {
+    sed 's/^/said /' "$root/launcher/seconds"
     for file in "$logs"/*.done; do
-        if [ ! -e "$file" ] || [ -e "$file.reported" ]; then continue; fi
-        : >"$file.reported"
-        reported=$((reported + 1))
-        last=$(date +%s)
-        name=$(basename "$file" .done)
-        ended_seconds=$((ended_seconds + $(seconds_of "$name")))
-        say "$name proved and built in $(cat "$file") s ($reported of $total); $(duration)"
+        [ ! -e "$file" ] || echo "built $(basename "$file" .done) $(cat "$file")"
     done
+    [ -e "$logs/$name.done" ] || echo "begun $name $(($(date +%s) - begun))"
+    crates | sed 's/^/crate /'
 }
 
-# Reports the crates that are being built, if nothing else was reported for a while: the seconds of each, and how many
-# of its functions are checked, if the toolchain has said so.
+# About how many seconds are to come, by that. Crates take as much longer or shorter than the table says as those did
+# that are built, and a crate that isn't in the table a minute of it. What takes longer already goes on for another
+# tenth. Crates that an earlier build left take no time, and say nothing. Nothing is printed if no other crate is built.
+to_come() {
+    known | awk '
+        function by_table(name) { return name in said ? said[name] : 60 }
+        $1 == "said" { said[$2] = $3 }
+        $1 == "built" { ended[$2]; if ($3 > 1) { took += $3; table += by_table($2) } }
+        $1 == "begun" { name = $2; since = $3 }
+        $1 == "crate" && !($2 in ended) { if ($2 == name) own = by_table($2); else others += by_table($2) }
+        END {
+            if (!table) exit
+            slower = took / table
+            if (since > own * slower) slower = (took + 1.1 * since) / (table + own)
+            left = own * slower - since
+            if (left < since / 10) left = since / 10
+            print int(left + others * slower + 0.5)
+        }'
+}
+
+# How long it took so far and, if that can be said, about how long it will take.
+duration() {
+    left=
+    [ "$reported" -eq "$total" ] || left=$(to_come)
+    echo "$(span $(($(date +%s) - start))) so far${left:+, about $(span "$left") to come}"
+}
+
+# Reports the crate that is being built, if nothing was reported for a while: its seconds, and how many of its functions
+# are checked, if the toolchain has said so.
 report_running() {
     [ $(($(date +%s) - last)) -ge "$most_silent" ] || return 0
     last=$(date +%s)
-    for file in "$logs"/*.begun; do
-        name=$(basename "$file" .begun)
-        [ -e "$logs/$name.done" ] && continue
-        checked=$(sed -n 's/^so far:.* \([0-9][0-9]* of [0-9][0-9]*\).*/, \1 functions/p' "$logs/$name.log" 2>/dev/null | tail -n 1)
-        say "proving $name: $((last - $(cut -d ' ' -f 2 "$file"))) s$checked; $(duration)"
-    done
+    checked=$(sed -n 's/^so far:.* \([0-9][0-9]* of [0-9][0-9]*\).*/, \1 functions/p' "$logs/$name.log" 2>/dev/null | tail -n 1)
+    say "proving $name: $((last - begun)) s$checked; $(duration)"
 }
 
-# Has the crates that are being built stop, after the caller has stopped this process.
+# Has the crate that is being built stop, after the caller has stopped this process.
 stop_building() {
-    for file in "$logs"/*.begun; do
-        [ -e "${file%.begun}.done" ] || kill "$(cut -d ' ' -f 1 "$file")" 2>/dev/null
-    done
+    kill "$child" 2>/dev/null
     rm -rf "$logs"
     exit 3
 }
 
-# Whether each crate is built. Reports what ends, until all are built or one can't be.
+# Whether each crate is built. Reports each, until all are built or one can't be. A crate doesn't keep the lock if this
+# process is killed.
 build_crates() {
-    while [ "$reported" -lt "$total" ]; do
-        begin_ready
-        sleep 1
-        report_built
-        report_running
-        for failed in "$logs"/*.failed; do
-            [ -e "$failed" ] || continue
-            say "$(basename "$failed" .failed) could not be built; see ${failed%.failed}.log"
-            return 1
+    for name in $(crates | cut -d ' ' -f 1); do
+        begun=$(date +%s)
+        (exec 9>&- && build_crate "$name") &
+        child=$!
+        until [ -e "$logs/$name.done" ]; do
+            if [ -e "$logs/$name.failed" ]; then
+                say "$name could not be built; see $logs/$name.log"
+                return 1
+            fi
+            sleep 1
+            report_running
         done
+        reported=$((reported + 1))
+        last=$(date +%s)
+        say "$name proved and built in $(cat "$logs/$name.done") s ($reported of $total); $(duration)"
     done
 }
 
 # Proves and builds all crates, and records it.
 build() {
     total=$(crates | wc -l)
-    most=$(most_at_a_time)
     reported=0
-    ended_seconds=0
-    # shellcheck disable=SC2046
-    all_seconds=$(seconds_of $(crates | cut -d ' ' -f 1))
+    child=
     start=$(date +%s)
     last=$start
     write_version || return 1
@@ -148,11 +112,11 @@ build() {
         meta_main) hint="; '$0 try' doesn't wait for it, and proves nothing" ;;
         *) hint= ;;
     esac
-    say "proving and building $total crates, $most at a time$hint ..."
+    say "proving and building $total crates$hint ..."
     build_crates || return 1
     record_built "$sum" || return 1
     rm -rf "$logs"
-    say "built in $(($(date +%s) - start)) s"
+    say "built in $(span $(($(date +%s) - start)))"
 }
 
 # The same, unless another process is building: then waits until that ends, and builds what it didn't. The lock ends
@@ -167,7 +131,11 @@ build_alone() {
         return 1
     fi
     logs=$made/build.$$
-    mkdir -p "$made" && exec 9>"$made/lock" || return 1
+    if ! { mkdir -p "$made" && touch "$made/lock"; } 2>/dev/null; then
+        say "cannot write to $made, where it has to be built"
+        return 1
+    fi
+    exec 9>"$made/lock"
     if ! flock -n 9; then
         say "another build is running; waiting for it ..."
         flock 9

@@ -1,15 +1,20 @@
 # `metaplay install PREFIX` and `metaplay uninstall PREFIX`: the proved program, its manual page, completions for three
-# shells, the recipes, the proved library for C, and metaplay-fixup. DESTDIR, if it is set, stands before each path, as
-# packagers need it.
+# shells, recipes, samples, pages, the proved library for C, and metaplay-fixup. DESTDIR, if it is set, stands before each
+# path, as packagers need it.
 # shellcheck shell=sh disable=SC2154
 
 # shellcheck source=launcher/library.sh
 . "$root/launcher/library.sh"
 # shellcheck source=launcher/fixup.sh
 . "$root/launcher/fixup.sh"
+# shellcheck source=launcher/notices.sh
+. "$root/launcher/notices.sh"
 
 # The recipe that has the path of the program in it.
 filter=$root/docs/recipes/metaplaytopdf
+
+# The pages in which names of files become those of installed files.
+pages='RECIPES.md FAULTS.md FIXUP.md FORMATS.md PIXELS.md'
 
 # Calls a function for each file to install, with its mode, where it is, and its place below the prefix.
 each_file() {
@@ -23,13 +28,35 @@ each_file() {
         [ "$recipe" = "$filter" ] || "$1" "$mode" "$recipe" "share/metaplay/recipes/${recipe##*/}"
     done
     "$1" 755 "$linked/metaplaytopdf" share/metaplay/recipes/metaplaytopdf
-    for page in RECIPES.md FAULTS.md FIXUP.md FORMATS.md PIXELS.md certify.schema.json fixup.png info.schema.json; do
+    for sample in "$root"/samples/*.[ew]mf "$root"/samples/rejected/*.[ew]mf; do
+        "$1" 644 "$sample" "share/metaplay/${sample#"$root/"}"
+    done
+    for page in $pages; do
+        "$1" 644 "$linked/$page" "share/doc/metaplay/$page"
+    done
+    for page in certify.schema.json fixup.png info.schema.json; do
         "$1" 644 "$root/docs/$page" "share/doc/metaplay/$page"
     done
+    "$1" 644 "$linked/NOTICES" share/doc/metaplay/NOTICES
     "$1" 644 "$root/include/metaplay.h" include/metaplay.h
     "$1" 644 "$linked/libmetaplay.a" lib/libmetaplay.a
     "$1" 644 "$linked/libmetaplay.so.$interface" "lib/libmetaplay.so.$interface"
     "$1" 644 "$linked/metaplay.pc" lib/pkgconfig/metaplay.pc
+}
+
+# Writes these pages. The recipes and samples that they name are those below the prefix, which is quoted for a shell if
+# it has other signs than most. The program isn't installed once more.
+make_pages() {
+    case $prefix in
+        *[!A-Za-z0-9/._+-]*) share="\"$prefix\"/share/metaplay" ;;
+        *) share=$prefix/share/metaplay ;;
+    esac
+    for page in $pages; do
+        sed -e "s|\(/path/to/metaplay/\)\{0,1\}docs/recipes/|$share/recipes/|g" \
+            -e "s|\([\` ]\)samples/|\1$share/samples/|g" \
+            -e 's|fixup/report\.schema\.json|report.schema.json|g' -e '/^install crates\/meta_main\//d' \
+            "$root/docs/$page" >"$linked/$page" || exit 3
+    done
 }
 
 # Keeps the prefix that is given, and the same below DESTDIR.
@@ -69,16 +96,22 @@ remove_one() {
     rm -f -- "$place/$3" || status=3
 }
 
-# Whether the commands are there that linking the library takes.
-can_link() {
-    # CC may have options after the command.
-    # shellcheck disable=SC2086
-    for command in rt ar $(printf '%s\n' ${CC:-cc} | head -n 1); do
+# Whether the commands are there that somebody needs.
+has_commands() {
+    needs=$1
+    shift
+    for command in "$@"; do
         if ! command -v "$command" >/dev/null; then
-            say "install needs $command, which is not on the PATH"
+            say "$needs needs $command, which is not on the PATH"
             return 1
         fi
     done
+}
+
+# Whether those are there that linking the library takes. CC may have options after the command.
+can_link() {
+    # shellcheck disable=SC2086
+    has_commands install rt ar "$(printf '%s\n' ${CC:-cc} | head -n 1)"
 }
 
 # A folder for what is linked, which is removed in the end, after a signal too.
@@ -104,7 +137,9 @@ install_all() {
     is_free link - bin/metaplay-fixup
     take_folder
     link_library "$linked" "$prefix" "$built" || exit 3
+    write_notices program library >"$linked/NOTICES" || exit 3
     sed "s|/usr/local/bin/metaplay|$prefix/bin/metaplay|" "$filter" >"$linked/metaplaytopdf" || exit 3
+    make_pages
     each_file install_one
     ln -sfnT -- "libmetaplay.so.$interface" "$place/lib/libmetaplay.so" || exit 3
     install_fixup
@@ -120,7 +155,9 @@ uninstall_all() {
     each_file remove_one
     [ "$(readlink -- "$place/lib/libmetaplay.so")" != "libmetaplay.so.$interface" ] || remove_one link - lib/libmetaplay.so
     remove_fixup
-    rmdir -- "$place/share/metaplay/recipes" "$place/share/metaplay" "$place/share/doc/metaplay" 2>/dev/null
+    for inner in metaplay/recipes metaplay/samples/rejected metaplay/samples metaplay doc/metaplay; do
+        rmdir -- "$place/share/$inner" 2>/dev/null
+    done
     [ -n "$found" ] || say "nothing was installed below $place"
     return "$status"
 }

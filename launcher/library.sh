@@ -12,16 +12,19 @@ link_library() {
 
 # One archive of the proved library, and of the toolchain's functions that call malloc.
 make_archive() {
-    heap=$(dirname "$(readlink -f "$(command -v rt)")")/../c/liblibc_c.a
+    heap=$(kit_folder)/c/liblibc_c.a
     mkdir "$1/objects" || return 1
     (cd "$1/objects" && ar x "$2" && ar x "$heap" && ar rcsD ../libmetaplay.a ./*)
 }
 
-# The shared library, which defines no names but those of the header.
+# The shared library. It defines the names of the header, with the interface as their version, and no others. What the
+# loader writes to is read-only before the library runs. CC and LDFLAGS may be several words.
 link_shared() {
-    echo '{ global: metaplay_*; local: *; };' >"$1/names.map" || return 1
-    ${CC:-cc} -shared -o "$1/libmetaplay.so.$interface" -Wl,-soname,"libmetaplay.so.$interface" \
-        -Xlinker --version-script="$1/names.map" -Wl,-z,defs -Wl,--whole-archive "$1/libmetaplay.a" -Wl,--no-whole-archive
+    echo "METAPLAY_$interface { global: metaplay_*; local: *; };" >"$1/names.map" || return 1
+    # shellcheck disable=SC2086
+    ${CC:-cc} ${LDFLAGS-} -shared -o "$1/libmetaplay.so.$interface" -Wl,-soname,"libmetaplay.so.$interface" \
+        -Xlinker --version-script="$1/names.map" -Wl,-z,defs -Wl,-z,relro,-z,now \
+        -Wl,--whole-archive "$1/libmetaplay.a" -Wl,--no-whole-archive
 }
 
 # What pkg-config reads. A `#` would begin a comment.

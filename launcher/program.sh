@@ -1,6 +1,9 @@
 # The proved program and the proved library for C, and whether they were built from the sources as they are.
 # shellcheck shell=sh disable=SC2154
 
+# How many seconds go by without a line of progress, at most, in what takes long.
+most_silent=30
+
 # Has the functions below speak of one of the two: of the file that the toolchain makes of a crate.
 choose() {
     main=$1
@@ -93,7 +96,11 @@ END
 # Writes the source of the version, if it isn't as it has to be.
 write_version() {
     text=$(version_text)
-    [ "$text" = "$(cat "$root/$version" 2>/dev/null)" ] || printf '%s\n' "$text" | put "$root/$version"
+    [ "$text" != "$(cat "$root/$version" 2>/dev/null)" ] || return 0
+    if ! printf '%s\n' "$text" | put "$root/$version" 2>/dev/null; then
+        say "cannot write $root/$version"
+        return 1
+    fi
 }
 
 # The toolchain's version. Without a toolchain nothing can be built, so the one that built the file counts.

@@ -18,7 +18,23 @@ side_of() {
     [ "$digits" -le 8192 ] && echo "$digits"
 }
 
-# Shows a file by the program as it stands in the sources. The toolchain's trial runs it without a proof.
+# Reports how long it takes, until standard input ends.
+report_seconds() {
+    start=$(date +%s)
+    until timeout "$most_silent" cat >/dev/null; [ $? -ne 124 ]; do
+        say "a trial: $(($(date +%s) - start)) s so far"
+    done
+}
+
+# Has that reported while this process runs: it holds the other end of a pipe.
+begin_reports() {
+    folder=$(mktemp -d) && mkfifo "$folder/pipe" || return 0
+    report_seconds <"$folder/pipe" >/dev/null &
+    exec 9>"$folder/pipe"
+    rm -r "$folder"
+}
+
+# Shows a file by the program as it stands in the sources. The toolchain's trial runs it without a proof, as this process.
 try_unproved() {
     if [ $# -ne 3 ] || ! width=$(side_of "$2") || ! height=$(side_of "$3"); then
         say "usage: metaplay try FILE W H, with W and H from 1 to 8192"
@@ -39,6 +55,7 @@ try_unproved() {
         say "the toolchain's command rt is not on the PATH"
         exit 3
     fi
-    say "a trial, in which nothing is proved: it reads and compiles the program for about a minute ..."
+    say "a trial, in which nothing is proved: it reads and compiles the program, for a minute or more ..."
+    begin_reports
     cd "$root/crates/$main" && exec rt try -- show stdin "$width" "$height"
 }

@@ -10,21 +10,29 @@ say() {
     echo "${0##*/}: $*" >&2
 }
 
-# Keeps the name of the package's file, which is the only word.
-take_file() {
-    file=${1-}
-    case $#$file in
+# Keeps the only word of a command line, which the usage calls so.
+take_word() {
+    called=$1
+    shift
+    given=${1-}
+    case $#$given in
         1[!-]*) ;;
         *)
-            echo "usage: ${0##*/} FILE" >&2
+            echo "usage: ${0##*/} $called" >&2
             exit 2
             ;;
     esac
 }
 
-# Begins a package: its maintainer, version and date, and a folder for its files, which is removed in the end.
-begin_package() {
-    maintainer="${DEBFULLNAME:?} <${DEBEMAIL:?}>"
+# Keeps the maintainer, the version and the date of packages, and makes a folder for them, which is removed in the end.
+# The words are the commands that making them takes.
+begin() {
+    if [ -z "${DEBFULLNAME-}" ] || [ -z "${DEBEMAIL-}" ]; then
+        say "DEBFULLNAME and DEBEMAIL must be the maintainer's name and address"
+        exit 2
+    fi
+    has_commands packing "$@" || exit 3
+    maintainer="$DEBFULLNAME <$DEBEMAIL>"
     version=$(newest_version)
     export SOURCE_DATE_EPOCH="${SOURCE_DATE_EPOCH:-$(date +%s)}"
     folder=
@@ -34,17 +42,24 @@ begin_package() {
     trap 'exit 129' HUP
     folder=$(mktemp -d)
     umask 022
-    mkdir -p "$folder/files/DEBIAN" "$folder/linked"
-    place=$folder/files/usr
+    mkdir "$folder/linked"
 }
 
-# Has its files as Debian has them: a compressed manual page and changelog, and completions where Debian's zsh looks.
+# Begins a package of this name, from a source of the same name or another one.
+begin_package() {
+    package=$1
+    source=${2-$1}
+    files=$folder/$package
+    place=$files/usr
+    mkdir -p "$files/DEBIAN" "$place/share/doc/$package"
+}
+
+# Has its files as Debian has them: compressed manual pages and a changelog, and completions where Debian's zsh looks.
 follow_debian() {
-    gzip -9n "$place/share/man/man1/$1.1"
-    mv "$place/share/zsh/site-functions" "$place/share/zsh/vendor-completions"
-    mkdir -p "$place/share/doc/$1"
-    gzip -9nc >"$place/share/doc/$1/changelog.gz" <<END
-$1 ($version) unstable; urgency=medium
+    [ ! -e "$place/share/man" ] || gzip -9n "$place"/share/man/man1/*.1
+    [ ! -e "$place/share/zsh" ] || mv "$place/share/zsh/site-functions" "$place/share/zsh/vendor-completions"
+    gzip -9nc >"$place/share/doc/$package/changelog.gz" <<END
+$source ($version) unstable; urgency=medium
 
   * Version $version.
 
@@ -52,14 +67,30 @@ $1 ($version) unstable; urgency=medium
 END
 }
 
+# Has Debian's Python compile the package's modules, as the words for py3compile say, and remove that again: who runs or
+# imports them writes nothing.
+have_compiled() {
+    cat >"$files/DEBIAN/postinst" <<END
+#!/bin/sh
+set -e
+if [ "\$1" = configure ]; then py3compile $1; fi
+END
+    cat >"$files/DEBIAN/prerm" <<END
+#!/bin/sh
+set -e
+py3clean -p $package
+END
+    chmod 755 "$files/DEBIAN/postinst" "$files/DEBIAN/prerm"
+}
+
 # The kibibytes of all files, each rounded up: a file system's folders have sizes of their own.
 installed_size() {
     find "$place" -type f -printf '%s\n' | awk '{ total += int(($1 + 1023) / 1024) } END { print total }'
 }
 
-# Packs the folder into the file.
+# Packs the files into a file, whose bytes don't depend on the number of processors.
 pack() {
-    (cd "$folder/files" && find usr -type f -exec md5sum {} + | LC_ALL=C sort -k 2 >DEBIAN/md5sums)
-    find "$folder/files" -newermt "@$SOURCE_DATE_EPOCH" -exec touch -hd "@$SOURCE_DATE_EPOCH" {} +
-    dpkg-deb --root-owner-group --build "$folder/files" "$file" >/dev/null
+    (cd "$files" && find usr -type f -exec md5sum {} + | LC_ALL=C sort -k 2 >DEBIAN/md5sums)
+    find "$files" -exec touch -hd "@$SOURCE_DATE_EPOCH" {} +
+    DPKG_DEB_THREADS_MAX=1 dpkg-deb --root-owner-group --build "$files" "$1" >/dev/null
 }

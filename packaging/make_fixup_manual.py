@@ -16,7 +16,7 @@ import sys
 from collections.abc import Iterator
 from typing import NamedTuple
 
-from manual_texts import FOLDER, ROOT, paragraph, quoted, roff, term
+from manual_texts import FOLDER, ROOT, date_of, paragraph, quoted, roff, section, term, title, wrapped, write
 
 NAME = "metaplay-fixup"
 
@@ -49,7 +49,7 @@ def help_text() -> str:
     return subprocess.run([ROOT / NAME, "--help"], capture_output=True, text=True, check=False, env=settings).stdout
 
 
-def section(text: str, head: str) -> str:
+def lines_below(text: str, head: str) -> str:
     """The lines below a head of a help text, up to the next empty line."""
     found = re.search(rf"^{head}:\n((?:  .*\n)+)", text, re.MULTILINE)
     assert found is not None, head
@@ -73,7 +73,7 @@ def option_of(name: str, about: str) -> Option:
 
 def options() -> list[Option]:
     """The program's options, in the order of its help."""
-    return [option_of(*row) for row in rows(section(help_text(), "options"))]
+    return [option_of(*row) for row in rows(lines_below(help_text(), "options"))]
 
 
 def faults() -> Iterator[tuple[str, str]]:
@@ -95,17 +95,18 @@ def manual() -> str:
     text = help_text()
     _, summary, purpose, _ = text.split("\n\n", 3)
     examples, words, _ = text.split("\nExamples:\n", 1)[1].split("\n\n", 2)
-    statuses = re.findall(r"(?m)^  (\d)  (.*)$", section(text, "Exit status"))
-    parts = [f".TH METAPLAY\\-FIXUP 1\n.SH NAME\nmetaplay\\-fixup \\- {roff(summary[:1].lower() + summary[1:])}\n"]
-    parts += [".SH SYNOPSIS\n", *(f".B metaplay\\-fixup\n{roff(it)}\n.br\n" for it in usages(text))]
-    parts += [".SH DESCRIPTION\n", paragraph(" ".join(purpose.split()))]
-    parts += [term(name, about) for name, about in rows(section(text, "positional arguments"))]
-    parts += [".SH OPTIONS\n", *(term(it.title, it.about) for it in options()), paragraph(words)]
-    parts += [f".SH EXAMPLES\n.nf\n{roff(examples)}\n.fi\n"]
-    parts += [".SH EXIT STATUS\n", *(term(number, said) for number, said in statuses)]
+    statuses = re.findall(r"(?m)^  (\d)  (.*)$", lines_below(text, "Exit status"))
+    about = wrapped(f"{NAME} - {summary[:1].lower()}{summary[1:]}")
+    parts = [title(NAME, date_of(FOLDER / f"{NAME}.1")), section("NAME"), f"{about}\n", section("SYNOPSIS")]
+    parts.append(".br\n".join(f".B {roff(NAME)}\n{roff(it)}\n" for it in usages(text)))
+    parts.append(section("DESCRIPTION", " ".join(purpose.split())))
+    parts += [term(name, about) for name, about in rows(lines_below(text, "positional arguments"))]
+    parts += [section("OPTIONS"), *(term(it.title, it.about) for it in options()), paragraph(words)]
+    parts += [section("EXAMPLES"), f".nf\n{roff(examples)}\n.fi\n"]
+    parts += [section("EXIT STATUS"), *(term(number, said) for number, said in statuses)]
     parts += [paragraph(text.rstrip().rsplit("\n\n", 1)[1])]
-    parts += [".SH FAULTS\n", *(term(name, said) for name, said in faults())]
-    parts += [paragraph("The others are those of metaplay(1)."), ".SH SEE ALSO\n.BR metaplay (1)\n"]
+    parts += [section("FAULTS"), *(term(name, said) for name, said in faults())]
+    parts += [paragraph("The others are those of metaplay(1)."), section("SEE ALSO"), ".BR metaplay (1)\n"]
     return "".join(parts)
 
 
@@ -192,7 +193,7 @@ def main() -> int:
             print(f"packaging/{name} isn't fresh: packaging/make_fixup_manual.py writes it")
         return 1 if wrong else 0
     for name, make in MADE.items():
-        (FOLDER / name).write_text(make(), encoding="utf-8")
+        write(FOLDER / name, make())
     return 0
 
 

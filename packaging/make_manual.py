@@ -10,7 +10,7 @@ import subprocess
 import sys
 from typing import NamedTuple
 
-from manual_texts import FOLDER, ROOT, paragraph, quoted, roff, term
+from manual_texts import FOLDER, ROOT, date_of, paragraph, quoted, roff, section, term, title, wrapped, write
 
 # The values of options that have only some; the value of any other option is a number.
 VALUES = {"profile": ["core", "print"], "allow": ["held-deletion", "emf-plus"]}
@@ -37,7 +37,7 @@ def help_of(program, *words):
     return subprocess.run([program, *words, "--help"], capture_output=True, text=True, check=False).stdout
 
 
-def section(text, head):
+def lines_below(text, head):
     """The lines below a head of a help text, up to the next empty line."""
     found = re.search(rf"^{head}:\n((?:  .*\n)+)", text, re.MULTILINE)
     return found[1].splitlines() if found else []
@@ -50,11 +50,11 @@ def rows(lines):
 
 def commands(program):
     """The program's commands, in the order of its help."""
-    for name, about in rows(section(help_of(program), "Commands")):
+    for name, about in rows(lines_below(help_of(program), "Commands")):
         if name != "help":
             text = help_of(program, name)
             usage = re.search(r"^Usage: metaplay (.*)$", text, re.MULTILINE)[1]
-            yield Command(name, about, usage, rows(section(text, "Arguments")), rows(section(text, "Options")))
+            yield Command(name, about, usage, rows(lines_below(text, "Arguments")), rows(lines_below(text, "Options")))
 
 
 def manual(program):
@@ -63,24 +63,24 @@ def manual(program):
     about, guide = text.split("\n\nUsage:", 1)
     guide = guide.split("\nExamples:\n", 1)[1]
     summary, purpose = about.split("\n\n", 1)
-    parts = [f'.TH METAPLAY 1\n.SH NAME\nmetaplay \\- {roff(summary[:1].lower() + summary[1:].rstrip("."))}\n.SH SYNOPSIS\n']
     known = list(commands(program))
-    parts += [f".B metaplay {roff(it.name)}\n{roff(it.usage.removeprefix(it.name).strip())}\n.br\n" for it in known]
-    parts += [".SH DESCRIPTION\n", paragraph(" ".join(purpose.split())), ".SH COMMANDS\n"]
+    parts = [title("metaplay", date_of(FOLDER / "metaplay.1"))]
+    parts += [section("NAME"), wrapped(f'metaplay - {summary[:1].lower()}{summary[1:].rstrip(".")}'), "\n", section("SYNOPSIS")]
+    parts.append(".br\n".join(f".B metaplay {roff(it.name)}\n{roff(it.usage.removeprefix(it.name).strip())}\n" for it in known))
+    parts += [section("DESCRIPTION", " ".join(purpose.split())), section("COMMANDS")]
     for it in known:
-        parts.append(f".SS {roff(it.usage)}\n{roff(it.about)}.\n")
+        parts.append(f".SS {roff(it.usage)}\n{wrapped(it.about)}.\n")
         parts += [term(name.strip("<>[].") if name.startswith(("<", "[")) else name, about) for name, about in it.arguments + it.options]
     examples, rest = guide.split("\n\n", 1)
-    parts.append(f".SH EXAMPLES\n.nf\n{roff(examples)}\n.fi\n")
+    parts += [section("EXAMPLES"), f".nf\n{roff(examples)}\n.fi\n"]
     words, statuses = rest.split("Exit status:\n", 1)
     parts.append(paragraph(" ".join(words.split())))
     table, _, more = statuses.partition("\n\n")
-    parts.append(".SH EXIT STATUS\n")
+    parts.append(section("EXIT STATUS"))
     parts += [term(number, " ".join(said.split())) for number, said in re.findall(r"(?ms)^  (\d)  (.*?)(?=^  \d|\Z)", table)]
-    parts.append(paragraph(" ".join(more.split("FAULTS.md")[0].split())))
-    parts.append(".SH FAULTS\n")
+    parts += [paragraph(" ".join(more.split("FAULTS.md")[0].split())), section("FAULTS")]
     parts += [term(name, f"{code}. {said}") for code, name, said in faults()]
-    parts.append(".SH SEE ALSO\n.BR metaplay\\-fixup (1),\n.BR ppm (5)\n")
+    parts += [section("SEE ALSO"), ".BR metaplay\\-fixup (1),\n.BR ppm (5)\n"]
     return "".join(parts)
 
 
@@ -187,7 +187,7 @@ def main():
             print(f"packaging/{name} isn't fresh: packaging/make_manual.py writes it")
         return 1 if stale(program) else 0
     for name, make in MADE.items():
-        (FOLDER / name).write_text(make(program), encoding="utf-8")
+        write(FOLDER / name, make(program))
     return 0
 
 

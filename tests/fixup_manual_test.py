@@ -11,7 +11,7 @@ from built import ROOT
 sys.path.insert(0, str(ROOT / "packaging"))
 
 from make_fixup_manual import faults, option_of, options, rows, stale  # noqa: E402
-from manual_texts import roff  # noqa: E402
+from manual_texts import term  # noqa: E402
 
 FOLDER = ROOT / "packaging"
 
@@ -29,8 +29,8 @@ class Made(unittest.TestCase):
         self.assertEqual(heads, [it.title for it in options()])
         self.assertGreater(len(heads), 15)
         for name, said in faults():
-            self.assertIn(f".TP\n.B {name}\n{roff(said)}\n", page)
-        self.assertIn(".B MissingFont\nNo folder has a font for a face. ", page)
+            self.assertIn(term(name, said), page)
+        self.assertIn("\n.TP\n.B MissingFont\nNo folder has a font for a face. ", page)
         self.assertIn("\n.B 4\nout of memory\n", page)
 
     def test_options_are_read_from_lines_of_help(self):

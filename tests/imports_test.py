@@ -10,10 +10,21 @@ from built import PROGRAMS, ROOT
 LINKED = {"_ITM_deregisterTMCloneTable", "_ITM_registerTMCloneTable", "__cxa_finalize", "__gmon_start__"}
 
 
+def undefined(program):
+    """The names that a program takes from libraries, each with its version."""
+    lines = subprocess.run(["nm", "--dynamic", "--undefined-only", program], capture_output=True, text=True, check=True).stdout.splitlines()
+    return [line.split()[-1] for line in lines]
+
+
 def imported(program):
     """The names of the functions that a program takes from libraries."""
-    lines = subprocess.run(["nm", "--dynamic", "--undefined-only", program], capture_output=True, text=True, check=True).stdout.splitlines()
-    return {line.split()[-1].partition("@")[0] for line in lines} - LINKED
+    return {name.partition("@")[0] for name in undefined(program)} - LINKED
+
+
+def least_glibc(program):
+    """The oldest version of glibc with which a program runs."""
+    found = [re.search(r"@GLIBC_(\d+)\.(\d+)", name) for name in undefined(program)]
+    return max(tuple(map(int, it.groups())) for it in found if it)
 
 
 class Imports(unittest.TestCase):
@@ -24,6 +35,11 @@ class Imports(unittest.TestCase):
         self.assertEqual(imported(PROGRAMS[0]), named)
         # The other compiler's program copies memory by itself.
         self.assertLessEqual(imported(PROGRAMS[1]), named)
+
+    def test_the_page_has_the_glibc_that_they_need(self):
+        page = " ".join((ROOT / "README.md").read_text(encoding="utf-8").split())
+        said = tuple(map(int, re.search(r"with glibc (\d+)\.(\d+) or newer", page).groups()))
+        self.assertEqual(max(map(least_glibc, PROGRAMS)), said)
 
 
 if __name__ == "__main__":

@@ -34,8 +34,9 @@ INSTALLED = {
     "lib/libmetaplay.so.1": False,
     "lib/pkgconfig/metaplay.pc": False,
     **dict.fromkeys((f"share/doc/metaplay/{name}" for name in ("FAULTS.md", "FIXUP.md", "FORMATS.md", "PIXELS.md", "RECIPES.md")), False),
-    **dict.fromkeys((f"share/doc/metaplay/{name}" for name in ("certify.schema.json", "fixup.png", "info.schema.json")), False),
+    **dict.fromkeys((f"share/doc/metaplay/{name}" for name in ("NOTICES", "certify.schema.json", "fixup.png", "info.schema.json")), False),
     **{f"share/metaplay/recipes/{it.name}": os.access(it, os.X_OK) for it in (ROOT / "docs/recipes").iterdir()},
+    **{f"share/metaplay/{it.relative_to(ROOT)}": False for it in (ROOT / "samples").rglob("*.[ew]mf")},
 }
 
 
@@ -108,12 +109,6 @@ class Installation(unittest.TestCase):
         told = b"metaplay: install needs no-compiler, which is not on the PATH\n"
         self.assertEqual(launched("install", str(self.folder), CC="no-compiler -O2"), Answer(3, b"", told))
 
-    def test_a_package_has_one_name(self):
-        for name in ("make_deb", "make_fixup_deb"):
-            for words in ([], ["--help"], ["a.deb", "b.deb"]):
-                ran = subprocess.run([ROOT / "packaging" / name, *words], cwd=self.folder, capture_output=True, text=True, check=False)
-                self.assertEqual((ran.returncode, ran.stdout, ran.stderr), (2, "", f"usage: {name} FILE\n"))
-
     def test_installing_needs_the_tools_that_link(self):
         folder = self.folder / "tools"
         folder.mkdir()
@@ -137,31 +132,6 @@ class Installation(unittest.TestCase):
         self.assertEqual(files_in(self.folder / "usr"), ALL_INSTALLED)
         self.assertEqual(launched("uninstall", "/usr", DESTDIR=str(self.folder)), Answer(0, b"", b""))
         self.assertEqual(files_in(self.folder), {})
-
-    @unittest.skipUnless(all(map(shutil.which, ["dpkg-deb", "strip", "objdump"])), "the tools of Debian's packages are not on this machine")
-    def test_a_debian_package(self):
-        package, whole = self.folder / "metaplay.deb", self.folder / "whole"
-        maintainer = {"DEBFULLNAME": "Some Packager", "DEBEMAIL": "packager@example.com", "SOURCE_DATE_EPOCH": "1700000000"}
-        made = [ROOT / "packaging/make_deb", package]
-        subprocess.run(made, check=True, env={**os.environ, **maintainer})
-        first = package.read_bytes()
-        for mask in (0o077, 0o002):
-            package.unlink()
-            subprocess.run(made, check=True, env={**os.environ, **maintainer}, umask=mask)
-            self.assertTrue(package.read_bytes() == first, oct(mask))
-        subprocess.run(["dpkg-deb", "-x", package, whole], check=True)
-        moved = {"share/man/man1/metaplay.1": "share/man/man1/metaplay.1.gz", "share/zsh/site-functions/_metaplay": "share/zsh/vendor-completions/_metaplay"}
-        wanted = {moved.get(name, name): is_program for name, is_program in INSTALLED.items()} | {"share/doc/metaplay/changelog.gz": False}
-        self.assertEqual(subprocess.run(["dpkg-deb", "-I", package, "triggers"], capture_output=True, check=True).stdout, b"activate-noawait ldconfig\n")
-        self.assertEqual(files_in(whole / "usr"), wanted)
-        # Folders, that of the whole package too, programs, other files, and a link.
-        modes = {line.split()[0] for line in subprocess.run(["dpkg-deb", "-c", package], capture_output=True, text=True, check=True).stdout.splitlines()}
-        self.assertEqual(modes, {"drwxr-xr-x", "-rwxr-xr-x", "-rw-r--r--", "lrwxrwxrwx"})
-        self.assertEqual(answer(whole / "usr/bin/metaplay", ["show", "stdin", "4", "4"], DOT), Answer(0, DOT_IMAGE, b""))
-        if shutil.which("lintian"):
-            told = subprocess.run(["lintian", "--allow-root", package], capture_output=True, text=True, check=False).stdout
-            # The licence isn't chosen yet.
-            self.assertEqual([line for line in told.splitlines() if line.startswith("E:")], ["E: metaplay: no-copyright-file"])
 
     def test_wrong_words_install_nothing(self):
         usage = b"metaplay: usage: metaplay install PREFIX, or metaplay uninstall PREFIX; PREFIX is an absolute path, but not /\n"

@@ -1,24 +1,29 @@
 """A folder with the launcher. A script stands in for the toolchain, since a real build takes half an hour."""
 
+import contextlib
 import os
 import pathlib
 import shutil
+import signal
 import subprocess
 import tempfile
+import time
 import unittest
 
 from built import ROOT
 
-# The toolchain's command. It writes down each call and waits as long as the file `seconds` says. A program that it builds prints the source.
+# The toolchain's command. It writes down each call of a build, and waits as long as the file `seconds` says. A program that it builds prints the
+# source.
 RT = """#!/bin/sh
 kit=$(dirname "$0")/../kit
 case $1 in
     version) cat "$kit/version"; exit ;;
-    try) echo "tried $*"; exit ;;
+    try) sleep "$(cat "$kit/seconds")"; echo "tried $*"; exit ;;
 esac
 echo "$(basename "$PWD")" >>"$kit/calls"
 [ -e "$kit/says" ] && cat "$kit/says"
-sleep "$(cat "$kit/seconds")"
+own=$kit/seconds.$(basename "$PWD")
+if [ -e "$own" ]; then sleep "$(cat "$own")"; else sleep "$(cat "$kit/seconds")"; fi
 [ -e "$kit/fails" ] && exit 1
 [ -e "$kit/changes" ] && echo "// changed" >>../low/src/lib.rt
 if [ "$1" = run ]; then
@@ -90,6 +95,35 @@ class Folder(unittest.TestCase):
         path.unlink(missing_ok=True)
         return names
 
+    def report_often(self):
+        """Has the launcher report each second."""
+        program = self.root / "launcher/program.sh"
+        text = program.read_text()
+        self.assertIn("\nmost_silent=30\n", text)
+        program.write_text(text.replace("\nmost_silent=30\n", "\nmost_silent=1\n"))
+
+    def is_building(self):
+        """Whether the toolchain still runs."""
+        name = f"\0{self.folder}/bin/rt\0".encode()
+        for process in pathlib.Path("/proc").glob("[0-9]*/cmdline"):
+            # (a process may end meanwhile)
+            with contextlib.suppress(OSError):
+                if name in process.read_bytes():
+                    return True
+        return False
+
+    def kill_group(self, group):
+        """Kills what is left of a group of processes."""
+        with contextlib.suppress(ProcessLookupError):
+            os.killpg(group, signal.SIGKILL)
+
+    def wait_for(self, is_there):
+        """Waits until something is there."""
+        end = time.monotonic() + 20
+        while not is_there() and time.monotonic() < end:
+            time.sleep(0.05)
+        self.assertTrue(is_there())
+
     def is_run(self, text, built, **how):
         """Checks that a call runs the program, which prints this text, after builds of these crates."""
         status, out, err = self.call("list", "x", **how)
@@ -98,18 +132,26 @@ class Folder(unittest.TestCase):
 
 
 class InstallFolder(Folder):
-    """A folder whose launcher installs, with a library for C that has one function."""
+    """A folder whose launcher installs, with a library for C that has one function, and a toolchain whose only library is std."""
 
     def setUp(self):
         super().setUp()
-        for name in ("packaging", "include", "docs", "fixup"):
-            shutil.copytree(ROOT / name, self.root / name)
+        for name in ("packaging", "include", "docs", "fixup", "samples"):
+            shutil.copytree(ROOT / name, self.root / name, dirs_exist_ok=True)
+        self.add_to_kit("std", [], {})
         (self.root / "metaplay-fixup").symlink_to("fixup/metaplay-fixup")
         (self.folder / "c").mkdir()
         for name, path in [("metaplay_none", self.kit / "archive"), ("kit_none", self.folder / "c/liblibc_c.a")]:
             subprocess.run(["cc", "-x", "c", "-c", "-", "-o", self.kit / f"{name}.o"], input=f"void {name}(void) {{}}", text=True, check=True)
             subprocess.run(["ar", "rcs", path, self.kit / f"{name}.o"], check=True)
         self.prefix = self.folder / "installed"
+
+    def add_to_kit(self, name, uses, licences):
+        """The toolchain has a library of this name, which uses others, and has these licence files."""
+        for folder, files in ((f"rlibs/{name}.rlib", {"format": "".join(f"dep {it}\n" for it in uses)}), (f"rattle/{name}", licences)):
+            (self.folder / folder).mkdir(parents=True)
+            for file, text in files.items():
+                (self.folder / folder / file).write_text(text)
 
     def is_installed(self, built):
         """Checks that an installation goes well, after builds of these crates."""
