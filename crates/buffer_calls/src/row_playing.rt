@@ -17,15 +17,8 @@ use std::alloc::Global;
 /// row to its place in the buffer: red, green and blue of each pixel, from the left. No other byte changes. The buffer
 /// needs stride * (count - 1) + 3 * width bytes.
 ///
-/// The first of these decides:
-///
-/// - `Rejected` with `BadBound` if the width or the height isn't from 1 to 8,192, if there is no row, if a row is beyond
-///   the surface, or if the stride is below 3 * width;
-/// - `Rejected` with the fault that `check_bytes` reports, or `OutOfMemory`;
-/// - `Rejected` with `SurfaceTooLarge` if the surface exceeds the certificate's bound;
-/// - `TooShort` if the buffer is;
-/// - `OutOfMemory` if an allocation for playing fails, before any byte is written;
-/// - `Done`.
+/// The outcomes are those of `play_into`, in the same order. `BadBound` also means that there is no row, that a row is
+/// beyond the surface, or that the stride is below 3 * width.
 pub fn play_rows_into(
     alloc: Global,
     file: &[u8],
