@@ -58,8 +58,8 @@ class Times(Folder):
         for left, line in lines[2:-1]:
             number, unit = SPAN.search(line).groups()
             said = int(number) * (60 if unit == "min" else 1)
-            # What the launcher itself does takes up to a real second.
-            if abs(said - left) > left / 3 + FAST:
+            # What the launcher itself does takes up to two real seconds on a busy machine.
+            if abs(said - left) > left / 3 + 2 * FAST:
                 wrong.append((round(left), line))
         self.assertEqual(wrong, [])
         self.assertNotIn("to come", lines[-1][1])
