@@ -9,6 +9,7 @@ import subprocess
 import tempfile
 from concurrent.futures import ThreadPoolExecutor
 
+import asked_files
 import certificate_fault_files
 import choice_files
 import clipped_files
@@ -62,8 +63,8 @@ MODULES = [
 # The files whose instructions are counted under both profiles.
 BOTH = {name: made for module in MODULES for name, made in module.FILES.items()}
 
-# Drawings and states by chance, of which each sort is a small part of the work.
-CHANCE = mixed_files.FILES | nib_files.FILES | packed_files.FILES | state_files.FILES
+# Drawings, states and what is asked about files by chance, of which each sort is a small part of the work.
+CHANCE = mixed_files.FILES | nib_files.FILES | packed_files.FILES | state_files.FILES | asked_files.FILES
 
 # What has its first fault at the beginning.
 FAULTS = fault_files.FILES | head_fault_files.FILES | certificate_fault_files.FILES

@@ -42,6 +42,7 @@ int main(int count, char **words)
     size_t length, certified;
     metaplay_terms terms;
     metaplay_sides sides;
+    metaplay_rows rows = {side, side, side / 2, 64, 3 * side};
     uint32_t outcome = 0;
     int left;
 
@@ -60,6 +61,12 @@ int main(int count, char **words)
             break;
         case 't':
             outcome |= metaplay_certificate_terms(certificate, certified, &terms).outcome;
+            break;
+        case 'r':
+            outcome |= metaplay_play_rows(file, length, certificate, certified, &rows, out, sizeof out).outcome;
+            break;
+        case 'o':
+            outcome |= metaplay_over(file, length, certificate, certified, side, side, out, sizeof out).outcome;
             break;
         default:
             outcome |= metaplay_play(file, length, certificate, certified, side, side, out, sizeof out).outcome;
@@ -84,6 +91,8 @@ CALLED = {
     "a preparation under print": Call("p", DRAWINGS, 12_845_997),
     "the sides that fit": Call("s", DRAWINGS, 241),
     "the terms of a certificate": Call("t", DRAWINGS, 186),
+    "64 rows": Call("r", DRAWINGS, 1),
+    "a play of nothing over an image": Call("o", EMF.file([], SIDE, 16), 1),
     "a play of nothing": Call("-", EMF.file([], SIDE, 16), 20_109_388),
 }
 

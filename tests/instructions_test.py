@@ -30,7 +30,7 @@ class Instructions(unittest.TestCase):
         recorded = on_record()
         self.assertEqual([name for name in FILES if name not in recorded], [], "these files have no record; bench/instructions --record counts them")
         self.assertEqual([name for name in recorded if name not in FILES], [], "these records have no file")
-        self.assertEqual(len(FILES), 1_308)
+        self.assertEqual(len(FILES), 1_368)
 
     def test_the_limit_is_1_02_times_the_record(self):
         self.assertTrue(is_within(1020, 1000))
