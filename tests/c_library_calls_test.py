@@ -91,8 +91,8 @@ CALLED = {
     "a preparation under print": Call("p", DRAWINGS, 12_845_997),
     "the sides that fit": Call("s", DRAWINGS, 241),
     "the terms of a certificate": Call("t", DRAWINGS, 186),
-    "64 rows": Call("r", DRAWINGS, 1),
-    "a play of nothing over an image": Call("o", EMF.file([], SIDE, 16), 1),
+    "64 rows": Call("r", DRAWINGS, 22_233_202),
+    "a play of nothing over an image": Call("o", EMF.file([], SIDE, 16), 40_581_677),
     "a play of nothing": Call("-", EMF.file([], SIDE, 16), 20_109_388),
 }
 
