@@ -2,15 +2,24 @@
 
 import pathlib
 import random
+import sys
 import tempfile
 import unittest
 
-from built import DOT, SAMPLES, answer
-from c_library import HELD, SHOW, check, plain, play, play_over, play_rows, rejected
+from built import DOT, ROOT, SAMPLES, answer
+from c_library import HELD, SHOW, check, library, plain, play, play_over, play_rows, rejected
 from c_library_test import CODES, HELD_OBJECT, NAMES, NO_SIDES, PROGRAM, certificate_of, shown
 from commands_test import DOT_CERT
+from metafile.scripts import EMF
+
+sys.path.append(str(ROOT / "bench"))
+
+from chance import Sort  # noqa: E402
 
 SIDES = WIDTH, HEIGHT = 96, 80
+
+# How many files of random drawings are played, and on which surfaces by turns.
+RANDOM_FILES, SURFACES = 24, [(100, 64), (64, 100), (257, 40), (16, 300), (129, 130), (31, 31)]
 
 PLAYED = [name for name in NAMES if name != HELD_OBJECT]
 
@@ -73,6 +82,19 @@ class Rows(unittest.TestCase):
             for first, count in ((0, HEIGHT), (13, 64)):
                 with self.subTest(name=name, first=first):
                     self.check_rows(given, certificate, samples, SIDES, (first, count, 3 * WIDTH))
+
+    def test_strips_of_random_drawings_are_those_of_the_image(self):
+        for number in range(RANDOM_FILES):
+            chance, (width, height) = random.Random(90_000 + number), SURFACES[number % len(SURFACES)]
+            given = EMF.file([record for _ in range(8) for record in Sort(chance, width, height).records()], (width, height), 16)
+            for words in ([], PRINT):
+                samples = answer(PROGRAM, ["show", "stdin", str(width), str(height), *words], given).out.split(b"\n255\n", 1)[1]
+                certificate = certificate_of(given, width, height, *words)
+                self.assertTrue(library().play(given, certificate, width, height) == samples, number)
+                for count in (1, 7, 64):
+                    rows = [SHOW.Rows(width, height, first, min(count, height - first), 3 * width) for first in range(0, height, count)]
+                    strips = [library().play_rows(given, certificate, it) for it in rows]
+                    self.assertTrue(b"".join(strips) == samples, (number, count, words))
 
     def test_rows_of_many_bands_are_those_of_the_image(self):
         # A band has at most 1,048,576 pixels: 128 rows of 8,192 columns, and 3,495 of 300.
