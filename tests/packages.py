@@ -10,10 +10,10 @@ import subprocess
 # Debian's interpreter.
 PYTHON = "/usr/bin/python3"
 
-# What the fix-up imports, what its tests import, what judges its sources (mypy reads the types of others in python3-typeshed), and the fonts of its
-# tests.
+# What the fix-up and the module for Python import, what the fix-up's tests import, what judges sources (mypy reads the types of others in
+# python3-typeshed), and the fonts of its tests.
 PACKAGES = [
-    *["python3", "python3-freetype", "python3-pil"],
+    *["python3", "python3-freetype", "python3-numpy", "python3-pil"],
     *["python3-fonttools", "python3-jsonschema"],
     *["black", "flake8", "mypy", "python3-typeshed"],
     *["fonts-crosextra-caladea", "fonts-crosextra-carlito", "fonts-dejavu-core", "fonts-liberation", "fonts-urw-base35"],

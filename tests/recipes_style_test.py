@@ -1,4 +1,5 @@
-"""The recipes in Python are formatted, without a warning, rightly typed and short; those in shell have no warning where shellcheck is installed."""
+"""The recipes in Python, and the module for Python, are formatted, without a warning, rightly typed and short; the recipes in shell have no warning
+where shellcheck is installed."""
 
 import ast
 import os
@@ -6,6 +7,7 @@ import subprocess
 import tempfile
 import unittest
 
+from built import ROOT
 from packages import PYTHON
 from recipes_test import RECIPES, needs
 from run import FIXUP
@@ -21,7 +23,7 @@ def sources(*begins):
     return sorted(path for path in RECIPES.iterdir() if path.read_text(encoding="utf-8").startswith(begins))
 
 
-PYTHONS = sources("#!/usr/bin/python3", '"""')
+PYTHONS = [*sources("#!/usr/bin/python3", '"""'), ROOT / "python/metaplay.py"]
 
 SHELLS = sources("#!/bin/sh\n")
 
@@ -50,7 +52,7 @@ class Style(unittest.TestCase):
         self.judge(["shellcheck"], SHELLS)
 
     def test_files_and_functions_are_short(self):
-        self.assertEqual([path.name for path in PYTHONS], ["metaplaytopdf", "report", "report_page.py", "report_texts.py", "summary"])
+        self.assertEqual([path.name for path in PYTHONS], ["metaplaytopdf", "report", "report_page.py", "report_texts.py", "summary", "metaplay.py"])
         for path in PYTHONS:
             text = path.read_text(encoding="utf-8")
             functions = [node for node in ast.walk(ast.parse(text)) if isinstance(node, ast.FunctionDef)]
