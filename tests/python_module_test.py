@@ -37,6 +37,15 @@ print(array.tobytes() == wanted)
 """
 
 
+# Whether the picture of a page, which its code made again, has the same pixels as the one beside the page.
+SAME = """
+import sys
+from PIL import Image
+made, kept = (Image.open(it).convert("RGB") for it in sys.argv[1:])
+print(made.size == kept.size and made.tobytes() == kept.tobytes())
+"""
+
+
 def module():
     """The module, with the library that is installed for tests."""
     os.environ["METAPLAY_LIBRARY"] = str(folder() / "lib/libmetaplay.so.1")
@@ -137,6 +146,15 @@ class Module(unittest.TestCase):
             if image:
                 width, height = map(int, image.split(b"\n", 2)[1].split())
                 self.assertEqual(self.metaplay.fitted_sides((SAMPLES / name).read_bytes(), 90, 70), (width, height), name)
+
+    def test_the_code_of_the_page_makes_its_picture(self):
+        code = re.search(r"```python\n(.*?)```", (ROOT / "docs/PYTHON.md").read_text(encoding="utf-8"), re.DOTALL)[1]
+        with tempfile.TemporaryDirectory() as room:
+            os.symlink(SAMPLES, f"{room}/samples")
+            settings = {**os.environ, "PYTHONPATH": str(ROOT / "python")}
+            subprocess.run([PYTHON, "-B", "-c", code], cwd=room, env=settings, check=True)
+            words = [PYTHON, "-c", SAME, f"{room}/python.png", ROOT / "docs/python.png"]
+            self.assertEqual(subprocess.run(words, capture_output=True, text=True, check=True).stdout, "True\n")
 
     def test_images_are_arrays_and_those_of_pillow(self):
         with tempfile.NamedTemporaryFile() as wanted:
