@@ -65,11 +65,13 @@ static block allocate(size_t length)
 static block read_file(const char *name)
 {
     FILE *file = fopen(name, "rb");
-    long length;
+    long length = -1;
     block read;
 
+    if (file != NULL && fseek(file, 0, SEEK_END) == 0)
+        length = ftell(file);
     /* A folder can be opened, and says that it is as long as can be. */
-    if (file == NULL || fseek(file, 0, SEEK_END) != 0 || (length = ftell(file)) < 0 || length == LONG_MAX)
+    if (length < 0 || length == LONG_MAX)
         fail(3, "cannot read");
     rewind(file);
     read = allocate((size_t)length);

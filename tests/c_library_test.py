@@ -6,6 +6,7 @@ import json
 import pathlib
 import re
 import resource
+import shutil
 import subprocess
 import sys
 import tempfile
@@ -135,6 +136,12 @@ class Headers(unittest.TestCase):
                 words = ["c++" if "c++" in words else "cc", *words, "-fsyntax-only", ROOT / "include/metaplay.h"]
                 done = subprocess.run(words, capture_output=True, text=True, check=False)
                 self.assertEqual((done.returncode, done.stderr), (0, ""))
+
+    @unittest.skipUnless(shutil.which("clang"), "clang is not installed")
+    def test_clang_has_no_warning_of_the_c_example(self):
+        words = ["clang", *STRICT, "-Wconversion", "-fsyntax-only", f"-I{ROOT / 'include'}", EXAMPLES / "show.c"]
+        done = subprocess.run(words, capture_output=True, text=True, check=False)
+        self.assertEqual((done.returncode, done.stderr), (0, ""))
 
     def test_the_python_example_declares_each_function_of_the_header(self):
         declared = re.findall(r"(?m)^metaplay_answer (metaplay_\w+)\(", (ROOT / "include/metaplay.h").read_text(encoding="utf-8"))
