@@ -2,4 +2,4 @@
 
 /// The line that `--version` writes: the version, and the checksum of all sources but this one.
 pub(crate) const VERSION: &str =
-    "metaplay 1.1.0 (sources 9d2d2ff898f125cce6ac12a53076f785ac6c1735a366a287ab087bfd28f7b31c)\n";
+    "metaplay 1.1.0 (sources b917e58eda7855ba57e55e33b327efd7ba5c9ebf5e9be615f3ff7b509ef598ce)\n";
