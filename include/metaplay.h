@@ -60,6 +60,11 @@ enum {
     METAPLAY_ALLOW_EMF_PLUS = 2
 };
 
+/* The version of metaplay that this header is from. */
+#define METAPLAY_VERSION_MAJOR 1
+#define METAPLAY_VERSION_MINOR 1
+#define METAPLAY_VERSION_PATCH 0
+
 /* The greatest width and height of a surface, in pixels. The least is 1. */
 #define METAPLAY_MOST_SIDE 8192
 

@@ -1,4 +1,4 @@
-"""`--version`: the program's version is that of CHANGELOG.md, and its checksum that of the sources."""
+"""The version of the program and that of the header in C are that of CHANGELOG.md, and the program's checksum is that of the sources."""
 
 import pathlib
 import re
@@ -10,9 +10,14 @@ from built import PROGRAMS, ROOT, Answer, answer, for_each_program
 VERSION = ROOT / "crates/meta_main/src/version.rt"
 
 
+def newest():
+    """The version of the changelog's newest entry."""
+    return re.search(r"^## (\S+)$", (ROOT / "CHANGELOG.md").read_text("utf-8"), re.MULTILINE)[1]
+
+
 def wanted():
     """The line, by the newest entry of the changelog and by the checksum that the launcher computes."""
-    number = re.search(r"^## (\S+)$", (ROOT / "CHANGELOG.md").read_text("utf-8"), re.MULTILINE)[1]
+    number = newest()
     sources = subprocess.run([ROOT / "launcher/record"], capture_output=True, text=True, check=True).stdout.strip()
     return f"metaplay {number} (sources {sources})\n"
 
@@ -24,6 +29,15 @@ class Source(unittest.TestCase):
         line = wanted().replace("\n", "\\n")
         self.assertIn(f'\n    "{line}";\n', VERSION.read_text("utf-8"), "launcher/version writes it")
         self.assertRegex(line, r"^metaplay [0-9]+\.[0-9]+\.[0-9]+ \(sources [0-9a-f]{64}\)")
+
+
+class Header(unittest.TestCase):
+    """The header of the library for C."""
+
+    def test_its_version_is_the_newest(self):
+        header = (ROOT / "include/metaplay.h").read_text("ascii")
+        found = [re.search(rf"(?m)^#define METAPLAY_VERSION_{part} (\d+)$", header)[1] for part in ("MAJOR", "MINOR", "PATCH")]
+        self.assertEqual(".".join(found), newest())
 
 
 class Version(unittest.TestCase):
