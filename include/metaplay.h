@@ -162,8 +162,9 @@ metaplay_answer metaplay_play(const uint8_t *file, size_t file_length, const uin
  * (count - 1) + 3 * width bytes, and `length` is that number.
  *
  * An image can be played strip by strip in this way, in little memory, and its caller can stop after each strip. But each
- * call checks the certificate and goes through all records of the file again: once for the check, and once for each
- * 1,048,576 pixels of the rows. Beside `out`, a call takes at most 3 MiB for pixels, or one row.
+ * call checks the certificate and goes through all records of the file again: once for the check, and once for each band
+ * of at most 1,048,576 pixels. Beside `out`, a call takes memory for the pixels of one band or of one row, three bytes
+ * for each and some padding, and what the certificate says that the file needs.
  *
  * The first of these decides: the width or the height isn't from 1 to 8,192, there is no row, a row is beyond the
  * surface, or the stride is too small (fault 8, BadBound); `metaplay_check` rejects the pair; the surface exceeds the
