@@ -85,6 +85,7 @@ pub record HasSamples (rules : Rules) (file : List ℕ) (width height : ℕ) (st
   pub run : Run rules file width height start (shown image)
   pub is_raster : samples ≡ raster image.colours
 
+-- the same for the run of a cleared file
 abbrev pub HasClearedSamples : Cleared → ℕ → ℕ → Image → List ℕ → Type 0
 HasClearedSamples cleared width height start samples =
     (file : List ℕ) → IsOpenedFrom file cleared.opened → HasSamples cleared.opened.rules file width height start samples
@@ -148,6 +149,7 @@ abbrev pub EndsRows : List ℕ → List ℕ → PlacedRows → List ℕ → List
 EndsRows file certificate rows =
     EndsPlaying (are_placed rows) rows.surface.width rows.surface.height (layout_size rows.layout rows.surface.width) (WritesRows rows) file certificate
 
+-- the same for a cleared file
 abbrev pub EndsClearedRows : Cleared → PlacedRows → List ℕ → List ℕ → Outcome → Type 0
 EndsClearedRows cleared rows = EndsCleared (layout_size rows.layout rows.surface.width) (WritesRows rows) cleared
 

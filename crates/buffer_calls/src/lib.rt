@@ -8,8 +8,8 @@
 //! - The samples of the image that the file's run makes on white are written to the start of the buffer, three bytes
 //!   per pixel, row by row (`play_into`, by `EndsPlay`). The file is played in bands, so there is no second image in
 //!   memory.
-//! - The same for some rows, each of which has its place in the buffer (`play_rows_into`, by `EndsRows`), and over the image
-//!   in the buffer (`over_into`, by `EndsOver`).
+//! - Some rows of that image are written in the same way, each to its place in the buffer (`play_rows_into`, by
+//!   `EndsRows`). A file is also played over the image in the buffer (`over_into`, by `EndsOver`).
 //! - The sides that fit a file's frame are the largest ones in its proportion (`fitted_for`, by `fitted_result`).
 //! - What a certificate says of every play is read without a file (`terms_of`, by `terms_result`).
 //! - Each fault has its name by its code, and no other number has one (`fault_name`, `copy_fault_name`).
